@@ -35,7 +35,7 @@ complete -c calendar-analyze -n __fish_use_subcommand -s V -l version -d 'print 
 complete -c calendar-analyze -n 'not __calendar_analyze_verb_is help' -s h -l help -d 'print help'
 complete -c calendar-analyze -n "__calendar_analyze_verb_is $elapses" -l iterations -x -d 'show at most N elapses, 1 to 1000000'
 complete -c calendar-analyze -n "__calendar_analyze_verb_is $elapses" -l base-time -x -d 'show elapses after this timestamp'
-complete -c calendar-analyze -n "__calendar_analyze_verb_is $zones" -l now -x -a '@' -d 'present time in Unix seconds'
+complete -c calendar-analyze -n "__calendar_analyze_verb_is $zones" -l now -x -a '@' -d 'current time in Unix seconds'
 complete -c calendar-analyze -n "__calendar_analyze_verb_is $zones" -l zones -r -F -d 'read zone files NAME=FILE,..'
 complete -c calendar-analyze -n "__calendar_analyze_verb_is $zones" -l local -x -a '(__calendar_analyze_zones)' -d 'local zone'
 complete -c calendar-analyze -n '__calendar_analyze_verb_is timer' -k -a '(__fish_complete_suffix .timer)'

@@ -107,9 +107,9 @@ calendar-analyze_timestamp_--_-to ->
 calendar-analyze_timestamp_--_to -> today tomorrow
 calendar-analyze_calendar_d -> daily
 calendar-analyze_timestamp_to -> today tomorrow
-calendar-timers_ -> a@1.timer list.timer logrotate.timer units list show lint between same next help
+calendar-timers_ -> a@1.timer list.timer logrotate.timer units list show lint between same next due help
 calendar-timers_l -> list lint list.timer logrotate.timer
-calendar-timers_help_ -> list show lint between same next
+calendar-timers_help_ -> list show lint between same next due
 calendar-timers_help_show_ -> 
 calendar-timers_show_ -> a@1.timer list.timer logrotate.timer units
 calendar-timers_show_./ -> ./backup.timer ./units
@@ -127,6 +127,9 @@ calendar-timers_between_now_to -> today tomorrow
 calendar-timers_between_now_tomorrow_l -> list.timer logrotate.timer
 calendar-timers_same_a_lo -> logrotate.timer
 calendar-timers_same_a_b_ -> 
+calendar-timers_due_lo -> logrotate.timer
+calendar-timers_due_a_ -> 
+calendar-timers_due_-- -> --zone= --utc --in= --now= --root= --user --json --help
 calendar-timers_--zone= -> UTC posix:
 calendar-timers_--zone=po -> posix:
 calendar-timers_--zone_po -> posix:
@@ -165,6 +168,8 @@ calendar-timers_next_d -> daily
 calendar-timers_between_to -> today tomorrow
 calendar-timers_between_now_tomorrow_l -> list.timer logrotate.timer
 calendar-timers_same_a_lo -> logrotate.timer
+calendar-timers_due_lo -> logrotate.timer
+calendar-timers_due_-- -> --zone --utc --in --now --root --user --json --help
 calendar-timers_--zone= -> UTC posix:
 calendar-timers_--json_show_l -> list.timer logrotate.timer
 END
@@ -196,6 +201,8 @@ calendar-timers_next_d -> daily
 calendar-timers_between_to -> today tomorrow
 calendar-timers_between_now_tomorrow_l -> list.timer logrotate.timer
 calendar-timers_same_a_lo -> logrotate.timer
+calendar-timers_due_lo -> logrotate.timer
+calendar-timers_due_-- -> --zone --utc --in --now --root --user --json --help
 calendar-timers_--zone= -> UTC posix:
 calendar-timers_--json_show_l -> list.timer logrotate.timer
 END

@@ -11,7 +11,7 @@ prints follows
 - whether the timer loads and, if not, at which line of its own file systemd gives up, unless nothing starts the unit,
 - which of its `OnCalendar=` lines systemd ignores,
 - from which line on it doesn't read a drop-in, and
-- which expressions, monotonic timers, settings that are switched on and unit are left in the end.
+- which expressions, monotonic timers and settings that are switched on are left in the end, and which unit.
 
 TIMERS, which is calendar-timers, has to say the same in its lists and on standard error, and to end with status 1 if
 something is ignored or the timer doesn't load. It names the first line of a continued line, and systemd the last one.
@@ -106,7 +106,7 @@ FALSE = ["0", "no", "N", "FALSE", "f", "off"]
 NO_BOOLEANS = ["", "2", "01", "+1", "-1", "enable", '"yes"', "yes # x", "%i"]
 UNITS = ["y.service", "z.target", "y.timer", "%p.service", "%N.service", "%j-y.service", "y-%i.service", "%n"]
 NO_UNITS = ["%I.service", "%J-y.service", "y-%P.service", "", "y", "/y.service", "y z.service", "y.none", "%Z.service", "é.service"]
-# Specifiers, and what isn't one, in values.
+# Specifiers for values, and `%` with a letter or digit that isn't one.
 SPECIFIERS = ["%i", "%I", "%j", "%J", "%N", "%p", "%P"] * 2 + ["%n", "%Z", "%1"]
 WITH_PERCENT = ["%%", "%", "%é", "%-"]
 CALENDARS_WITH = ["{}", "{}", "{}", "Mon {}", "*:0/{}"]
@@ -133,7 +133,7 @@ BLANKS = " \t\r"
 MARK = b"\xef\xbb\xbf"
 SPECIFIER = re.compile("%([A-Za-z0-9%])")
 LINE = re.compile(r"^(/.*?):(\d+): (.*)", re.M)
-# How the messages of systemd about lines begin from which on it doesn't read a file, and what calendar-timers says.
+# How systemd's message about a line begins if it stops reading the file there, and what calendar-timers then says.
 BROKEN = {
     "Invalid section header": "bad section header",
     "Bad characters in section header": "bad section header",
@@ -379,7 +379,7 @@ class Timer:
 
     def unit_named(self, value):
         """Returns the unit that a value of `Unit=` names, or None if systemd ignores the value."""
-        # Only specifiers that leave parts of names as they are are known here.
+        # Specifiers that unescape a part of the name count as unknown here.
         known = {letter: text for letter, text in specifiers(self.stem).items() if letter not in "IJP"}
         name = filled_in(value, known) or ""
         is_valid = re.fullmatch(r"[\w:.\\-]+(@[\w:.\\@-]+)?\.(service|target|timer)", name, re.A)

@@ -61,7 +61,7 @@ def damaged(source, valid):
     return bytes(data)
 
 
-# Each kind of noise returns arguments, among them NOISE for the path of a file, and what is in the file.
+# ## Kinds of noise: each returns arguments, among them NOISE for the path of a file, and what is in the file
 
 
 def random_arguments(source):

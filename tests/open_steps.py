@@ -91,7 +91,7 @@ class Component:
         return forms[self.field].format(self.text())
 
 
-# The rule
+# ## The rule
 
 
 def resumes_at(component):
@@ -121,7 +121,7 @@ def fails_at_midnight_changes(component):
     return resumes_at(component) is not None
 
 
-# What systemd-analyze prints
+# ## What systemd-analyze prints
 
 
 def elapses(expression, zone, base, count):
@@ -155,7 +155,7 @@ def expected(component):
     return base, found
 
 
-# Checks: each returns what is wrong, or None.
+# ## Checks: each returns what is wrong, or None
 
 
 def check_losses(component):
@@ -209,7 +209,7 @@ def check_months(component):
     return check_zone(component, "Europe/Berlin", "2024-01-01", has_to_fail, fails_at_changes(component))
 
 
-# What calendar-timers says
+# ## What calendar-timers says
 
 
 # How many expressions a timer has. It may have 256.
@@ -222,21 +222,43 @@ def is_reported(component):
     return loses or (component.field in ["month", "day", "hour"] and fails_at_changes(component))
 
 
-def suggestions(timers, components):
-    """Returns what lint suggests for the components of which it warns, by their places in the list."""
-    found = {}
+def problems(timers, components, zone):
+    """Yields for each problem that lint reports in a zone the place of the component in the list, the message, and the
+    suggestion."""
     with tempfile.TemporaryDirectory() as folder:
         for first in range(0, len(components), LISTED):
             lines = [f"OnCalendar={component.expression()}\n" for component in components[first : first + LISTED]]
             with open(f"{folder}/{first}.timer", "w") as file:
                 file.writelines(["[Timer]\n", *lines])
-        command = [timers, "lint", "--json", "--utc", "--now=@1704067200", folder]
+        command = [timers, "lint", "--json", f"--zone={zone}", "--now=@1704067200", folder]
         run = subprocess.run(command, stdout=subprocess.PIPE, text=True)
         for row in json.loads(run.stdout):
-            if row["message"].startswith(("systemd 252 loses ", "systemd 252 may fail ")):
+            if row["line"] is not None:
                 first = int(os.path.basename(row["file"]).removesuffix(".timer"))
-                found[first + row["line"] - 2] = row["suggestion"]
-    return found
+                yield first + row["line"] - 2, row["message"], row["suggestion"]
+
+
+def suggestions(timers, components):
+    """Returns what lint suggests for the components of which it warns in each zone, by their places in the list."""
+    messages = ("systemd 252 loses ", "systemd 252 may fail before ")
+    return {
+        place: suggestion
+        for place, message, suggestion in problems(timers, components, "UTC")
+        if message.startswith(messages)
+    }
+
+
+def check_midnight(timers):
+    """Yields for each component of the hours what is wrong with what lint says of midnights that clocks skip, or None.
+    Havana's clock skips some, and London's doesn't."""
+    components = steps("hour")
+    for zone, may_warn in [("America/Havana", True), ("Europe/London", False)]:
+        start = "systemd 252 may fail where the clock is set forward at midnight"
+        found = {place for place, message, _ in problems(timers, components, zone) if message.startswith(start)}
+        for place, component in enumerate(components):
+            wanted = may_warn and fails_at_midnight_changes(component) and not is_reported(component)
+            says = "warns" if place in found else "says nothing"
+            yield None if (place in found) == wanted else f"{component.expression()}: lint {says} in {zone}"
 
 
 def normal_forms(expressions):
@@ -260,7 +282,7 @@ def check_program(timers):
             yield f"some suggestions from {some[0][0].expression()} to {some[-1][0].expression()} are wrong"
 
 
-# Expressions
+# ## Expressions
 
 
 def steps(field):
@@ -322,7 +344,7 @@ def main(timers=None):
             if wrong:
                 failed += 1
                 print(f"tests/open_steps.py: {component.expression()}: {wrong}")
-    said = list(check_program(timers)) if timers else []
+    said = [*check_program(timers), *check_midnight(timers)] if timers else []
     for wrong in filter(None, said):
         failed += 1
         print(f"tests/open_steps.py: {wrong}")

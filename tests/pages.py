@@ -152,7 +152,7 @@ class Tree:
         return None
 
     def counted(self, page, text):
-        """Yields the numbers of a page that the tree doesn't have."""
+        """Yields the counts of a page that are wrong, and its large numbers that no file has."""
         for count, what in COUNT.findall(text):
             if int(count.replace(",", "")) != self.counts[what]:
                 yield f"{count} {what}, but there are {self.counts[what]}"
@@ -161,7 +161,7 @@ class Tree:
                 yield f"the number {number}, which no file has"
 
     def example(self, page):
-        """Yields what the README of a crate quotes of the tests, and the files that it names don't have."""
+        """Yields the code in the README of a crate that the tests named there don't have."""
         named = re.findall(r"`([\w/]+\.rt)`", "".join(re.findall(r"the tests \(([^)]*)\)", joined(text_of(page)))))
         code = [plain(line) for block in blocks(page, "rust") for line in block.split("\n")]
         files = [path for path in self.tests if path.endswith(tuple(f"/src/{name}" for name in named))]
@@ -200,8 +200,8 @@ SELECTORS = {("cal_spec", "component"), ("cal_spec", "members_of")}
 
 
 def of_folders(tree):
-    """Yields the files of definitions that are in neither folder, and what rules cite from specs/computed/ although
-    docs/MAP.md names no law for it."""
+    """Yields the files of definitions that are neither in specs/rules/ nor in specs/computed/, and what rules cite from
+    specs/computed/ although docs/MAP.md names no law for it."""
     for path in sorted(filter(DEFINITIONS.fullmatch, tree.files)):
         folder = DEFINITIONS.fullmatch(path)[1].split("/")[0]
         if folder not in ("rules", "computed"):

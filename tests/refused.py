@@ -59,10 +59,12 @@ ROOT = "--root=tree"
 
 
 class Row:
-    """The arguments of a run, and what both outputs have to be; None stands for a text that isn't compared."""
+    """The arguments of a run, and what both outputs have to be; None stands for a text that isn't compared. `memory_status`
+    is its status if it runs out of memory."""
 
-    def __init__(self, about, arguments, out, err="", status=0, memory_line=MEMORY_LINE):
-        self.about, self.arguments, self.status, self.memory_line = about, arguments, status, memory_line
+    def __init__(self, about, arguments, out, err="", status=0, memory_line=MEMORY_LINE, memory_status=1):
+        self.about, self.arguments, self.status = about, arguments, status
+        self.memory_line, self.memory_status = memory_line, memory_status
         self.out = None if out is None else out.encode()
         self.err = None if err is None else err.encode()
 
@@ -182,7 +184,7 @@ ROWS = [
 
 def timers_row(about, arguments, status=0):
     """Returns a row of calendar-timers. Its outputs are not compared: tests/run.sh does that."""
-    return Row(about, arguments, None, None, status, TIMERS_MEMORY_LINE)
+    return Row(about, arguments, None, None, status, TIMERS_MEMORY_LINE, 255 if "due" in arguments else 1)
 
 
 TIMERS_ROWS = [
@@ -200,6 +202,12 @@ TIMERS_ROWS = [
     timers_row("expressions", ["next", ROOT, NOW, "daily", "Sat 12:00 Test/Fixed"]),
     timers_row("an expression as JSON", ["next", ROOT, NOW, "--json", "*:0/30"]),
     timers_row("an invalid expression", ["next", ROOT, NOW, "dayly"], 1),
+    timers_row("a run that is due", ["due", ROOT, NOW, "backup"]),
+    timers_row("a run at an exception", ["due", ROOT, NOW, "./except.timer"], 1),
+    timers_row("a run as JSON", ["due", ROOT, NOW, "--json", "./except.timer"], 1),
+    timers_row("a run of a masked timer", ["due", ROOT, NOW, "masked"], 255),
+    timers_row("a run of two timers", ["due", "a", "b"], 255),
+    timers_row("help for due", ["due", "--help"]),
     timers_row("an unknown zone", ["list", ROOT, NOW, "--zone=Mars/One"], 2),
     timers_row("help for timers", ["--help"]),
     timers_row("help for a verb of timers", ["between", "--help"]),
@@ -270,7 +278,7 @@ class Refusals:
                 refused, found = self.run(row.arguments, first, is_all, program)
             except subprocess.TimeoutExpired:
                 return f"no end in {TIMEOUT} seconds without allocation {first}"
-            is_cut = found[2] == 1 and (found[1], found[0]) in prefixes
+            is_cut = found[2] == row.memory_status and (found[1], found[0]) in prefixes
             if found != whole and not (refused and is_cut):
                 return f"without allocation {first}{' and those after it' if is_all else ''}: {found}"
             if not refused:

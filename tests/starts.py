@@ -250,8 +250,8 @@ def entries(tree):
 
 
 def entries_of_links(tree):
-    """Yields the entries of units' folders that are links, each as the unit's name and the stem. With another root folder,
-    others of these folders are read."""
+    """Yields the entries of units' folders that are links themselves, each as the unit's name and the stem. Which of
+    these folders are read depends on the root folder."""
     for folder in tree.folders:
         for name in filter(lambda name: name.endswith((".wants", ".requires")), os.listdir(folder)):
             path = f"{folder}/{name}"
@@ -265,8 +265,8 @@ def is_start(path):
 
 
 def listed_stems(tree):
-    """Returns the stems of the timers that have files or aliases, and of those that are started. What can be neither is no
-    timer by itself: it may have the name of an instance whose template is used instead."""
+    """Returns the stems of the timers that have files or aliases, and of those that are started. A name that leads to
+    neither isn't a timer by itself: it may be that of an instance whose template is used instead."""
     names = {name[1] for folder in tree.folders for name in map(NAME.fullmatch, os.listdir(folder)) if name}
     found = {stem for stem in names if any(destination(tree, stem))}
     found |= {stem_started(owner, stem) for owner, stem, path in entries(tree) if is_start(path)}

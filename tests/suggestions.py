@@ -161,7 +161,7 @@ def broken(source):
 
 
 def suggestions(timers, folder, texts):
-    """Returns the suggestion for each expression, or None where there is none."""
+    """Returns the suggestion for each expression, or None if there is none."""
     path = f"{folder}/made.timer"
     lines = ["[Timer]"]
     for number, text in enumerate(texts):

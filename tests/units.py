@@ -196,7 +196,7 @@ def add_in_front(tree, chance, stem, add):
 
 
 def link_folder(tree, chance, folder):
-    """Makes a folder of drop-ins a link: absolute, or relative and right from the folder that has it, from the root of the
+    """Makes a folder of drop-ins a relative link, which leads to a folder from where the link is, from the root of the
     tree, or from both."""
     target = f"store/{os.path.basename(folder)}"
     beside, below_root = f"{os.path.dirname(folder)}/{target}", f"{tree.root}/{target}"

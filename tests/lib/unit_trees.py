@@ -140,7 +140,7 @@ def test_systemd(folders):
     variables = {"HOME": "/", "SYSTEMD_LOG_TARGET": "console", "SYSTEMD_UNIT_PATH": ":".join(folders)}
     # Generators would read files of this machine.
     variables |= {"SYSTEMD_GENERATOR_PATH": "/nowhere", "SYSTEMD_ENVIRONMENT_GENERATOR_PATH": "/nowhere"}
-    # It refuses to be tested by root.
+    # systemd refuses to be tested by root.
     options = {"user": 65534, "group": 65534, "extra_groups": []} if os.getuid() == 0 else {}
     options |= {"capture_output": True, "text": True, "errors": "replace"}
     command = ["systemd", "--test", "--system", "--unit=timers.target"]

@@ -1,5 +1,5 @@
--- Lemmas on what is found when a question is read.
-use Rattle.std.proofs.Common.{◌≡◌, ◌∙◌, ◌<◌, ◌≤◌, ℕ, All, Bool, Bor, true, false, List, [], ◌∷◌, Some, ap, arith, drop, get_or, inl, inr, length, map, option_map, refl, string_bytes, subst, sym}
+-- Lemmas on what `read_question` finds.
+use Rattle.std.proofs.Common.{◌≡◌, ◌∙◌, ℕ, All, Bool, Bor, true, false, List, [], ◌∷◌, Option, None, Some, ap, arith, drop, get_or, inl, inr, length, map, refl, subst, sym}
 use Rattle.std.proofs.lemmas.List.{drop-map}
 use Rattle.cal_machine.specs.declared.raw.Raw.{Ghosts}
 use Rattle.cal_machine.specs.declared.recorder.Recorder.{Recorder}
@@ -15,7 +15,7 @@ use Rattle.cal_load.specs.rules.AllUnits.{shown_stems, started_if_all}
 use Rattle.cal_answers.specs.declared.found.Known.{Known}
 use Rattle.cal_answers.specs.declared.found.LoadedByVerb.{LoadedByVerb}
 use Rattle.cal_answers.specs.declared.found.LoadedByVerb.TheVariants as loads
-use Rattle.cal_answers.specs.rules.Found.{AreAll, AreAllOn, AreLoadedOn, AreSidesOn, FollowsFromRead, HasAllFor, HasAllLinted, HasUnits, IsIndexFor, IsKnownOn, IsPathOf, IsSideOn, needs_units, targets_of, verb_of}
+use Rattle.cal_answers.specs.rules.Found.{AreAll, AreAllOn, AreLoadedOn, AreSidesOn, FollowsFromRead, HasAllFor, HasAllLinted, HasDue, HasUnits, IsIndexFor, IsKnownOn, IsPathOf, IsSideOn, needs_units, targets_of, verb_of}
 use Rattle.cal_answers.specs.rules.LocalClock.{IsLocalZone, clock_zone, local_zone_of, shown_zone_of}
 use Rattle.cal_answers.specs.rules.MachinePath.{machine_path}
 use Rattle.cal_answers.specs.rules.RangeZones.{AreRangeZones}
@@ -29,7 +29,7 @@ two_sides machine path (x ∷ []) d first second two one other = absurd (let no 
 two_sides machine path (x ∷ y ∷ []) d first second two one other = (one, other)
 two_sides machine path (x ∷ y ∷ z ∷ rest) d first second two one other = absurd (let no : ⊥ = omega (arith, two) in no)
 
--- if nothing is missing on each machine and search path of which `Knows` is true, then nothing is missing on one of them
+-- if nothing is missing on any machine and search path for which `Knows` holds, nothing is missing on one of them
 all_at : (Knows : Machine → List (List ℕ) → Type 0) (sought : Machine → List (List ℕ) → List Sought) (machine : Machine) (path : List (List ℕ)) (timers : Loaded)
     → Knows machine path → HasAll Knows sought timers → HasAll (λ other folders. (other ≡ machine) × (folders ≡ path)) sought timers
 all_at Knows sought machine path timers knows all = record {
@@ -72,7 +72,7 @@ pub all_for : (Shows : Machine → Type 0) (Is : Machine → List (List ℕ) →
 all_for Shows Is is_all [] loaded units started targets = (units refl, λ machine path knows. started refl machine path knows.0 knows.1)
 all_for Shows Is is_all (one ∷ rest) loaded units started targets = targets (λ h. absurd (cc))
 
--- the same for the targets of `between` without the start and the end of the range
+-- `HasAllFor` holds for the targets of `between` without the start and the end of the range, if these are `timers`
 pub all_between : (Shows : Machine → Type 0) (Is : Machine → List (List ℕ) → Type 0) (is_all : Bool) (targets timers : List (Bor (List ℕ))) (loaded : Loaded)
     → timers ≡ drop 2 targets
     → HasAllFor (λ machine path. Shows machine × Is machine path) is_all (map (λ text. text.now) timers) loaded
@@ -87,6 +87,11 @@ pub all_linted : (Knows : Machine → List (List ℕ) → Type 0) (is_all : Bool
 all_linted Knows is_all [] loaded units = units refl
 all_linted Knows is_all (one ∷ rest) loaded units = tt
 
+due_at : (Knows : Machine → List (List ℕ) → Type 0) (machine : Machine) (path : List (List ℕ)) (targets : List (List ℕ)) (timer : Option Loaded) → Knows machine path
+    → HasDue Knows targets timer → HasDue (λ other folders. (other ≡ machine) × (folders ≡ path)) targets timer
+due_at Knows machine path targets None knows all = tt
+due_at Knows machine path targets (Some timer) knows all = all_at Knows _ machine path timer knows all
+
 pub loaded_at : (Knows : Machine → List (List ℕ) → Type 0) (machine : Machine) (path : List (List ℕ)) (is_all : Bool) (targets : List (List ℕ)) (loaded : LoadedByVerb) → Knows machine path
     → AreAll Knows is_all targets loaded → AreAllOn machine path is_all targets loaded
 loaded_at Knows machine path is_all targets (loads.List timers) knows all = for_at Knows machine path is_all targets timers knows all
@@ -95,16 +100,17 @@ loaded_at Knows machine path is_all targets (loads.Lint files timers) knows all 
 loaded_at Knows machine path is_all targets (loads.Between timers) knows all = for_at Knows machine path is_all (drop 2 targets) timers knows all
 loaded_at Knows machine path is_all targets (loads.Same first second) knows all = tt
 loaded_at Knows machine path is_all targets (loads.Next timers) knows all = tt
+loaded_at Knows machine path is_all targets (loads.Due timer) knows all = due_at Knows machine path targets timer knows all
 
 -- what is known is true on a machine if each part of it is; `path` is the search path, or no folder at all
 known_with : (machine : Machine) (question : Question) (known : Known) (path : List (List ℕ)) (needed : Bool)
-    → needs_units question.verb (targets_of question) ≡ needed
+    → needs_units question.verb (targets_of machine question) ≡ needed
     → IsLocalZone machine (local_zone_of machine question) (clock_zone known.local)
     → IsLocalZone machine (shown_zone_of machine question) (clock_zone known.shown)
-    → AreRangeZones machine question.verb (targets_of question) known.range
+    → AreRangeZones machine question.verb (targets_of machine question) known.range
     → IsPathOf machine question.is_user needed path → IsIndexOf machine path known.index → verb_of known.loaded ≡ question.verb
-    → ((folders : List (List ℕ)) → IsIndexOf machine folders known.index → AreLoadedOn machine folders (targets_of question) known.loaded)
-    → ((folders : List (List ℕ)) → IsIndexOf machine folders known.index → AreAllOn machine folders question.is_all (targets_of question) known.loaded)
+    → ((folders : List (List ℕ)) → IsIndexOf machine folders known.index → AreLoadedOn machine folders (targets_of machine question) known.loaded)
+    → ((folders : List (List ℕ)) → IsIndexOf machine folders known.index → AreAllOn machine folders question.is_all (targets_of machine question) known.loaded)
     → IsKnownOn machine question known
 known_with machine question known path needed about zone shown range searched is same loads whole = record {
   local = zone;
@@ -120,14 +126,14 @@ known_with machine question known path needed about zone shown range searched is
 
 -- what is known is true on a machine if each part of it is; `needed` says whether the question can be about units
 pub known_on : (machine : Machine) (question : Question) (known : Known) (path : List (List ℕ)) (needed : Bool)
-    → needs_units question.verb (targets_of question) ≡ needed
+    → needs_units question.verb (targets_of machine question) ≡ needed
     → IsLocalZone machine (local_zone_of machine question) (clock_zone known.local)
     → IsLocalZone machine (shown_zone_of machine question) (clock_zone known.shown)
-    → AreRangeZones machine question.verb (targets_of question) known.range
+    → AreRangeZones machine question.verb (targets_of machine question) known.range
     → machine_path machine question.is_user ≡ Some path → IsIndexFor machine path known.index
     → (needed ≡ true → IsIndexOf machine path known.index) → verb_of known.loaded ≡ question.verb
-    → ((folders : List (List ℕ)) → IsIndexOf machine folders known.index → AreLoadedOn machine folders (targets_of question) known.loaded)
-    → ((folders : List (List ℕ)) → IsIndexOf machine folders known.index → AreAllOn machine folders question.is_all (targets_of question) known.loaded)
+    → ((folders : List (List ℕ)) → IsIndexOf machine folders known.index → AreLoadedOn machine folders (targets_of machine question) known.loaded)
+    → ((folders : List (List ℕ)) → IsIndexOf machine folders known.index → AreAllOn machine folders question.is_all (targets_of machine question) known.loaded)
     → IsKnownOn machine question known
 known_on machine question known path true about zone shown range searched index indexed same loads whole =
     known_with machine question known path true about zone shown range searched (indexed refl) same loads whole

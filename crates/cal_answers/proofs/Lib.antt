@@ -1,5 +1,12 @@
+mod ErrorLemmas
 pub mod FoundLemmas
+mod LintFileLemmas
+mod LintLemmas
+mod LintOutputLemmas
+mod LintPlaceLemmas
 mod LocalClockLemmas
+mod LoopLemmas
 mod RangeZoneLemmas
 pub mod MachinePathLemmas
 mod RunLemmas
+mod TriggerLemmas

@@ -1,10 +1,20 @@
--- What this project's own rules say. The contracts of this crate cite these definitions.
+-- What the manuals and this project's own rules say. The contracts of this crate cite these definitions.
+pub mod ErrorText
 pub mod Found
+pub mod LintCandidates
+pub mod LintFiles
+pub mod LintOutput
+pub mod LintRows
 pub mod LintStatus
+pub mod LintTimers
+pub mod LintUnits
 pub mod LocalClock
 pub mod MachinePath
 pub mod Output
 pub mod Present
+pub mod Printed
 pub mod RangeZones
+pub mod Remarks
+pub mod Trigger
 pub mod Run
 pub mod Unanswerable

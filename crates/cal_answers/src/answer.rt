@@ -1,19 +1,26 @@
 //! The answer to a question: the texts for standard output and standard error, and the exit status.
 
-ghost use Rattle.std.specs.Prelude.{◌≡◌, ◌≤◌, [], IfOk, Some, string_bytes};
+ghost use Rattle.std.specs.Prelude.{◌≡◌, ◌++◌, ◌≤◌, IfOk, OnOk, Some, codes, map, max, string_bytes};
+ghost use Rattle.std.specs.List.{flat_map, list_any};
+ghost use Rattle.std.specs.Str.{bytes_eq};
 ghost use Rattle.cal_zone.specs.rules.Zone.{zone_of};
 ghost use Rattle.cal_answers.specs.rules.LocalClock.{clock_zone};
-ghost use Rattle.cal_answers.specs.rules.Output.{IsAskedBy, IsOutputOf, IsPrintedFor, IsPrintedForKnown};
+ghost use Rattle.cal_answers.specs.rules.ErrorText.{broken_line_if, broken_lines, fault_lines, ignored_lines, lines_about, loaded_lines, masked_lines, text_of, with_line, with_lines};
+ghost use Rattle.cal_answers.specs.rules.Output.{HasLoadedLines, IsAnswerAsked, IsAnswerToFound, IsAnswerToKnown, IsAskedBy, IsVerbAnswer};
+ghost use Rattle.cal_answers.specs.rules.Printed.{IsStopped, printed_of, status_by, with_errors, with_notes};
+ghost use Rattle.cal_answers.specs.rules.Remarks.{with_remarks};
+ghost use Rattle.cal_timers_text.specs.rules.ErrorLines.{broken_line, fault_line, ignored_line, unusable_zone_line};
 
 use crate::between::between;
 use crate::compare::same;
+use crate::due::due;
 use crate::found::{Found, Known, LoadedByVerb};
 use crate::index::with_unreadable;
 use crate::lint::lint;
 use crate::range_zones::RangeZones;
 use crate::remarks::{with_empty_folders, with_verb_hint, with_zone_note};
 use crate::timers::{list, show};
-use cal_load::{Loaded, LoadedTimer, TargetFault};
+use cal_load::{BrokenLine, IgnoredLine, Loaded, LoadedTimer, TargetFault, UnusableZone};
 use cal_plan::PlanFault;
 use cal_tasks::Clocked;
 use cal_timers_command::Question;
@@ -23,8 +30,8 @@ use cal_unit_index::UnitIndex;
 use cal_zone::Zone;
 use std::alloc::{AllocError, Global};
 
-/// The exit status if a timer can't be loaded (except by `same`), a line of its files is ignored, a file or folder can't be
-/// read, folders have no timers, `lint` finds an error or, with `--strict`, a warning, or two timers differ.
+/// The exit status if a timer can't be loaded (except by `same`), a line of its files is ignored, a file or folder
+/// can't be read, folders have no timers, `lint` finds an error or, with `--strict`, a warning, or two timers differ.
 pub(crate) const INVALID: u8 = 1;
 
 /// The exit status if the question can't be answered at all, for example because the local zone isn't known, or because
@@ -42,8 +49,8 @@ pub(crate) struct Answer {
     /// The error lines, for standard error.
     pub err: String,
     /// The exit status: 0 for success; 1 if a timer can't be loaded, a line of its files is ignored, a file or folder
-    /// can't be read, folders have no timers, `lint` finds an error or, with `--strict`, a warning, or two timers differ;
-    /// 2 if the question can't be answered at all, for example because the local zone isn't known.
+    /// can't be read, folders have no timers, `lint` finds an error or, with `--strict`, a warning, or two timers
+    /// differ; 2 if the question can't be answered at all, for example because the local zone isn't known.
     pub status: u8,
 }
 
@@ -52,7 +59,8 @@ pub(crate) struct Answer {
 pub(crate) struct Asked<'a> {
     /// The present and the local zone.
     pub at: Clocked<'a>,
-    /// The present, and as `local` the zone in which times are shown, and FROM and TO read unless they name a zone.
+    /// The present, with the zone in which times are shown as `local`. FROM and TO are read in this zone, unless they
+    /// name another one.
     pub shown: Clocked<'a>,
     /// The zones that FROM and TO can name.
     pub range: &'a RangeZones,
@@ -78,7 +86,7 @@ pub(crate) fn answer_question(
     style: Style,
 ) -> Result<Answer, PlanFault>
     ensures status { IfOk result (λ answer. answer.status ≤ 2) }
-    ensures out { IfOk result (λ answer. IsPrintedFor question.entry.now found.now style (string_bytes answer.out)) }
+    ensures answer { IfOk result (λ answer. IsAnswerToFound question.entry.now found.now style (printed_of answer)) }
 {
     match found {
         Found::Answerable(known) => answer_known(alloc, question, known, style),
@@ -94,7 +102,7 @@ fn answer_known(
     style: Style,
 ) -> Result<Answer, PlanFault>
     ensures status { IfOk result (λ answer. answer.status ≤ 2) }
-    ensures out { IfOk result (λ answer. IsPrintedForKnown question.entry.now known.entry.now style (string_bytes answer.out)) }
+    ensures answer { IfOk result (λ answer. IsAnswerToKnown question.entry.now known.entry.now style (printed_of answer)) }
 {
     let Some(local) = known.local.zone() else {
         return stopped(alloc, "the local zone isn't known");
@@ -140,12 +148,35 @@ fn answer_asked(
     asked: Asked<'_>,
 ) -> Result<Answer, PlanFault>
     ensures status { IfOk result (λ answer. answer.status ≤ 2) }
-    ensures out { IfOk result (λ answer. IsOutputOf asked.entry known.entry.now.loaded (string_bytes answer.out)) }
+    ensures answer { IfOk result (λ answer. IsAnswerAsked question.entry.now known.entry.now asked.entry (printed_of answer)) }
 {
     let answer = answer_loaded(alloc, asked, &known.index, &known.loaded)?;
     let answer = with_unreadable(alloc, known.index.unreadable(), answer)?;
+    match known.loaded {
+        // Any error line makes the service fail, so `due` doesn't add these remarks.
+        LoadedByVerb::Due(_) => Ok(answer),
+        LoadedByVerb::List(_)
+        | LoadedByVerb::Show(_)
+        | LoadedByVerb::Lint(..)
+        | LoadedByVerb::Between(_)
+        | LoadedByVerb::Same(..)
+        | LoadedByVerb::Next(_) => with_remarks(alloc, question, known, answer),
+    }
+}
+
+/// Adds the error lines that aren't about a timer, except for those about unreadable folders.
+fn with_remarks(
+    alloc: Global,
+    question: &Question,
+    known: &Known,
+    answer: Answer,
+) -> Result<Answer, PlanFault>
+    requires { answer.status ≤ 2 }
+    ensures status { IfOk result (λ changed. changed.status ≤ 2) }
+    ensures changed { IfOk result (λ changed. printed_of changed ≡ with_remarks question.entry.now known.entry.now (printed_of answer)) }
+{
     let answer = with_verb_hint(alloc, question, &known.loaded, answer)?;
-    let answer = with_empty_folders(question, &known.loaded, answer)?;
+    let answer = with_empty_folders(alloc, question, &known.loaded, answer)?;
     Ok(with_zone_note(question.verb, &known.local, answer)?)
 }
 
@@ -153,7 +184,7 @@ fn answer_asked(
 /// [`UNUSABLE`].
 pub(crate) fn stopped(alloc: Global, reason: &str) -> Result<Answer, PlanFault>
     ensures status { IfOk result (λ answer. answer.status ≤ 2) }
-    ensures out { IfOk result (λ answer. string_bytes answer.out ≡ []) }
+    ensures stopped { IfOk result (λ answer. IsStopped reason.now (printed_of answer)) }
 {
     Ok(Answer {
         out: String::new(alloc),
@@ -169,7 +200,7 @@ fn answer_loaded(
     loaded: &LoadedByVerb,
 ) -> Result<Answer, PlanFault>
     ensures status { IfOk result (λ answer. answer.status ≤ 2) }
-    ensures out { IfOk result (λ answer. IsOutputOf asked.entry loaded.now (string_bytes answer.out)) }
+    ensures answer { IfOk result (λ answer. IsVerbAnswer asked.entry index.now loaded.now (printed_of answer)) }
 {
     match loaded {
         LoadedByVerb::List(timers) => list(alloc, asked, timers),
@@ -177,16 +208,30 @@ fn answer_loaded(
         LoadedByVerb::Lint(files, timers) => lint(alloc, asked, index, files, timers),
         LoadedByVerb::Between(timers) => between(alloc, asked, timers),
         LoadedByVerb::Same(first, second) => same(alloc, asked, first, second),
+        LoadedByVerb::Due(timer) => due(alloc, asked, timer),
     }
 }
 
 /// Returns the error lines about timers or files that couldn't be loaded.
-pub(crate) fn fault_lines(alloc: Global, faults: &[TargetFault]) -> Result<String, AllocError> {
+pub(crate) fn fault_lines(alloc: Global, faults: &[TargetFault]) -> Result<String, AllocError>
+    ensures { IfOk result (λ lines. string_bytes lines ≡ fault_lines faults.now) }
+{
     let mut lines = String::new(alloc);
-    for fault in faults {
-        push_fault_line(alloc, &mut lines, fault)?;
-    }
+    push_fault_lines(alloc, &mut lines, faults)?;
     Ok(lines)
+}
+
+fn push_fault_lines(
+    alloc: Global,
+    lines: &mut String,
+    faults: &[TargetFault],
+) -> Result<(), AllocError>
+    ensures { OnOk result (string_bytes lines.new ≡ string_bytes lines.old ++ fault_lines faults.now) }
+{
+    for fault in faults {
+        push_fault_line(alloc, lines, fault)?;
+    }
+    Ok(())
 }
 
 /// Appends the error line about a timer or file that couldn't be loaded.
@@ -194,11 +239,11 @@ pub(crate) fn push_fault_line(
     alloc: Global,
     lines: &mut String,
     fault: &TargetFault,
-) -> Result<(), AllocError> {
+) -> Result<(), AllocError>
+    ensures { OnOk result (string_bytes lines.new ≡ string_bytes lines.old ++ (fault_line fault.now ++ codes "\n")) }
+{
     let line = fault_text(alloc, fault)?;
-    lines.push_str(line.as_str())?;
-    lines.push('\n')?;
-    Ok(())
+    push_with_feed(lines, line.as_str())
 }
 
 /// Returns the answer with the text `out` and with the error lines about what was loaded. The status is [`INVALID`] if
@@ -208,59 +253,121 @@ pub(crate) fn with_error_lines(
     loaded: &Loaded,
     out: String,
 ) -> Result<Answer, PlanFault>
-    ensures status { IfOk result (λ answer. answer.status ≤ 2) }
     ensures out { IfOk result (λ answer. answer.out ≡ out) }
+    ensures lines { IfOk result (λ answer. HasLoadedLines loaded.now (printed_of answer)) }
+    ensures status { IfOk result (λ answer. answer.status ≤ 2) }
 {
     let mut err = fault_lines(alloc, loaded.faults.as_slice())?;
-    push_ignored_lines(alloc, &mut err, loaded.timers.as_slice())?;
-    let status = if err.is_empty() { 0 } else { INVALID };
+    let mut lines = Vec::new(alloc);
+    push_ignored_lines(alloc, &mut lines, loaded.timers.as_slice())?;
+    push_all_lines(&mut err, lines.as_slice())?;
+    let status = status_by(err.as_str());
     Ok(Answer { out, err, status })
 }
 
-/// Appends an error line about each line of the timers' files that is ignored, and about each drop-in whose end is. If
-/// several timers have this line, as in a drop-in for all of them, it has only one error line.
+/// Appends an error line about each line of the timers' files that is ignored, and about each drop-in that systemd
+/// stops reading at some line. If several timers have such a line, as in a drop-in for all of them, it has only one
+/// error line.
 pub(crate) fn push_ignored_lines(
     alloc: Global,
-    lines: &mut String,
+    lines: &mut Vec<String>,
     timers: &[LoadedTimer],
-) -> Result<(), AllocError> {
-    for timer in timers {
-        push_ignored_of(alloc, lines, timer)?;
-    }
+) -> Result<(), AllocError>
+    ensures { OnOk result (map string_bytes lines.new.items ≡ with_lines (map string_bytes lines.old.items) (lines_about timers.now)) }
+{
+    push_ignored(alloc, lines, timers)?;
     push_broken_lines(alloc, lines, timers)
 }
 
-fn push_ignored_of(
+/// Appends an error line about each line of the timers' files that is ignored.
+fn push_ignored(
     alloc: Global,
-    lines: &mut String,
-    timer: &LoadedTimer,
-) -> Result<(), AllocError> {
-    for ignored in &timer.files.ignored {
-        let line = ignored_text(alloc, timer, ignored)?;
-        push_line_once(lines, line.as_str())?;
-    }
-    push_unusable_zones(alloc, lines, timer)
-}
-
-fn push_unusable_zones(
-    alloc: Global,
-    lines: &mut String,
-    timer: &LoadedTimer,
-) -> Result<(), AllocError> {
-    for zone in &timer.files.unusable_zones {
-        let line = unusable_zone_text(alloc, timer, zone)?;
-        push_line_once(lines, line.as_str())?;
+    lines: &mut Vec<String>,
+    timers: &[LoadedTimer],
+) -> Result<(), AllocError>
+    ensures { OnOk result (map string_bytes lines.new.items ≡ with_lines (map string_bytes lines.old.items) (flat_map ignored_lines timers.now)) }
+{
+    for timer in timers {
+        push_ignored_of(alloc, lines, timer)?;
     }
     Ok(())
 }
 
-/// Appends an error line about each drop-in of the timers that systemd stops reading at some line. If several timers
-/// have the drop-in, it has only one error line.
+fn push_ignored_of(
+    alloc: Global,
+    lines: &mut Vec<String>,
+    timer: &LoadedTimer,
+) -> Result<(), AllocError>
+    ensures { OnOk result (map string_bytes lines.new.items ≡ with_lines (map string_bytes lines.old.items) (ignored_lines timer.now)) }
+{
+    push_invalid(alloc, lines, timer, timer.files.ignored.as_slice())?;
+    push_unusable(alloc, lines, timer, timer.files.unusable_zones.as_slice())
+}
+
+fn push_invalid(
+    alloc: Global,
+    lines: &mut Vec<String>,
+    timer: &LoadedTimer,
+    invalid: &[IgnoredLine],
+) -> Result<(), AllocError>
+    ensures { OnOk result (map string_bytes lines.new.items
+        ≡ with_lines (map string_bytes lines.old.items) (map (ignored_line timer.now) invalid.now)) }
+{
+    for ignored in invalid {
+        push_invalid_line(alloc, lines, timer, ignored)?;
+    }
+    Ok(())
+}
+
+fn push_invalid_line(
+    alloc: Global,
+    lines: &mut Vec<String>,
+    timer: &LoadedTimer,
+    ignored: &IgnoredLine,
+) -> Result<(), AllocError>
+    ensures { OnOk result (map string_bytes lines.new.items
+        ≡ with_line (map string_bytes lines.old.items) (ignored_line timer.now ignored.now)) }
+{
+    let line = ignored_text(alloc, timer, ignored)?;
+    push_line_once(lines, line)
+}
+
+fn push_unusable(
+    alloc: Global,
+    lines: &mut Vec<String>,
+    timer: &LoadedTimer,
+    zones: &[UnusableZone],
+) -> Result<(), AllocError>
+    ensures { OnOk result (map string_bytes lines.new.items
+        ≡ with_lines (map string_bytes lines.old.items) (map (unusable_zone_line timer.now) zones.now)) }
+{
+    for zone in zones {
+        push_unusable_zone(alloc, lines, timer, zone)?;
+    }
+    Ok(())
+}
+
+fn push_unusable_zone(
+    alloc: Global,
+    lines: &mut Vec<String>,
+    timer: &LoadedTimer,
+    zone: &UnusableZone,
+) -> Result<(), AllocError>
+    ensures { OnOk result (map string_bytes lines.new.items
+        ≡ with_line (map string_bytes lines.old.items) (unusable_zone_line timer.now zone.now)) }
+{
+    let line = unusable_zone_text(alloc, timer, zone)?;
+    push_line_once(lines, line)
+}
+
+/// Appends an error line about each drop-in of the timers that systemd stops reading at some line.
 fn push_broken_lines(
     alloc: Global,
-    lines: &mut String,
+    lines: &mut Vec<String>,
     timers: &[LoadedTimer],
-) -> Result<(), AllocError> {
+) -> Result<(), AllocError>
+    ensures { OnOk result (map string_bytes lines.new.items ≡ with_lines (map string_bytes lines.old.items) (flat_map broken_lines timers.now)) }
+{
     for timer in timers {
         push_broken_of(alloc, lines, timer)?;
     }
@@ -269,32 +376,131 @@ fn push_broken_lines(
 
 fn push_broken_of(
     alloc: Global,
-    lines: &mut String,
+    lines: &mut Vec<String>,
     timer: &LoadedTimer,
-) -> Result<(), AllocError> {
-    for broken in &timer.files.broken {
-        if let Some(broken) = broken {
-            let line = broken_text(alloc, timer, *broken)?;
-            push_line_once(lines, line.as_str())?;
-        }
+) -> Result<(), AllocError>
+    ensures { OnOk result (map string_bytes lines.new.items ≡ with_lines (map string_bytes lines.old.items) (broken_lines timer.now)) }
+{
+    push_all_broken(alloc, lines, timer, timer.files.broken.as_slice())
+}
+
+fn push_all_broken(
+    alloc: Global,
+    lines: &mut Vec<String>,
+    timer: &LoadedTimer,
+    broken: &[Option<BrokenLine>],
+) -> Result<(), AllocError>
+    ensures { OnOk result (map string_bytes lines.new.items
+        ≡ with_lines (map string_bytes lines.old.items) (flat_map (broken_line_if timer.now) broken.now)) }
+{
+    for line in broken {
+        push_broken(alloc, lines, timer, *line)?;
+    }
+    Ok(())
+}
+
+/// Appends an error line about a drop-in if systemd stops reading it at some line.
+fn push_broken(
+    alloc: Global,
+    lines: &mut Vec<String>,
+    timer: &LoadedTimer,
+    broken: Option<BrokenLine>,
+) -> Result<(), AllocError>
+    ensures { OnOk result (map string_bytes lines.new.items ≡ with_lines (map string_bytes lines.old.items) (broken_line_if timer.now broken)) }
+{
+    if let Some(broken) = broken {
+        let line = broken_text(alloc, timer, broken)?;
+        push_line_once(lines, line)?;
     }
     Ok(())
 }
 
 /// Appends a line, unless it is among the lines already.
-fn push_line_once(lines: &mut String, line: &str) -> Result<(), AllocError> {
-    if lines.lines().any(|known| known == line) {
-        return Ok(());
+fn push_line_once(lines: &mut Vec<String>, line: String) -> Result<(), AllocError>
+    ensures { OnOk result (map string_bytes lines.new.items ≡ with_line (map string_bytes lines.old.items) (string_bytes line)) }
+{
+    if !has_line(lines.as_slice(), line.as_str()) {
+        lines.push(line)?;
     }
-    lines.push_str(line)?;
-    lines.push('\n')
+    Ok(())
+}
+
+fn has_line(lines: &[String], line: &str) -> bool
+    ensures { result ≡ list_any (λ known. bytes_eq known line.now) (map string_bytes lines.now) }
+{
+    lines.iter().any(|known| known.as_str() == line)
+}
+
+/// Appends these lines to a text.
+pub(crate) fn push_all_lines(text: &mut String, lines: &[String]) -> Result<(), AllocError>
+    ensures { OnOk result (string_bytes text.new ≡ string_bytes text.old ++ text_of (map string_bytes lines.now)) }
+{
+    for line in lines {
+        push_with_feed(text, line.as_str())?;
+    }
+    Ok(())
+}
+
+fn push_with_feed(text: &mut String, line: &str) -> Result<(), AllocError>
+    ensures { OnOk result (string_bytes text.new ≡ string_bytes text.old ++ (line.now ++ codes "\n")) }
+{
+    text.push_str(line)?;
+    text.push('\n')
+}
+
+/// Returns the exit status if nothing but these error lines decides it.
+pub(crate) fn status_by(lines: &str) -> u8
+    ensures { result ≡ status_by lines.now }
+{
+    if lines.is_empty() { 0 } else { INVALID }
+}
+
+/// Adds error lines to an answer. If there are any, its exit status becomes at least [`INVALID`].
+pub(crate) fn with_errors(answer: Answer, lines: &str) -> Result<Answer, AllocError>
+    ensures status { IfOk result (λ changed. changed.status ≤ max answer.status 1) }
+    ensures changed { IfOk result (λ changed. printed_of changed ≡ with_errors lines.now (printed_of answer)) }
+{
+    let Answer {
+        out,
+        mut err,
+        status,
+    } = answer;
+    err.push_str(lines)?;
+    let status = if lines.is_empty() {
+        status
+    } else {
+        status.max(INVALID)
+    };
+    Ok(Answer { out, err, status })
+}
+
+/// Adds lines for standard error to an answer, and keeps its exit status.
+pub(crate) fn with_notes(answer: Answer, lines: &str) -> Result<Answer, AllocError>
+    ensures status { IfOk result (λ changed. changed.status ≡ answer.status) }
+    ensures changed { IfOk result (λ changed. printed_of changed ≡ with_notes lines.now (printed_of answer)) }
+{
+    let Answer {
+        out,
+        mut err,
+        status,
+    } = answer;
+    err.push_str(lines)?;
+    Ok(Answer { out, err, status })
 }
 
 /// Appends a line for each masked unit.
-pub(crate) fn push_masked(text: &mut String, masked: &[String]) -> Result<(), AllocError> {
+pub(crate) fn push_masked(text: &mut String, masked: &[String]) -> Result<(), AllocError>
+    ensures { OnOk result (string_bytes text.new ≡ string_bytes text.old ++ masked_lines (map string_bytes masked.now)) }
+{
     for name in masked {
-        text.push_str(name.as_str())?;
-        text.push_str(": masked\n")?;
+        push_masked_name(text, name.as_str())?;
     }
     Ok(())
+}
+
+fn push_masked_name(text: &mut String, name: &str) -> Result<(), AllocError>
+    ensures { OnOk result (string_bytes text.new ≡ string_bytes text.old ++ (name.now ++ codes ": masked\n")) }
+{
+    text.push_str(name)?;
+    text.push_str(": masked\n")
 }

@@ -1,24 +1,29 @@
 //! A whole run: from the arguments to the bytes on both outputs and the exit status.
 
-ghost use Rattle.std.specs.Prelude.{◌≡◌, ℤ, IfOk, Option, false, map, string_bytes};
+ghost use Rattle.std.specs.Prelude.{◌≡◌, ℤ, IfOk, Option, false, map};
 ghost use Rattle.cal_answers.specs.rules.Output.{IsAnswerOn};
-ghost use Rattle.cal_answers.specs.rules.Run.{IsRunOf, IsToPrint, Prints, printed_of};
+ghost use Rattle.cal_answers.specs.rules.Printed.{printed_of};
+ghost use Rattle.cal_answers.specs.rules.Run.{IsRunOf, IsToPrint, Prints, status_unless};
 
 use crate::answer::Answer;
 use crate::whole::answer_on;
 use cal_bytes::{Sink, put_all, put_pieces};
 use cal_machine::Raw;
 use cal_plan::PlanFault;
-use cal_timers_command::{CommandFault, Question};
+use cal_timers_command::{CommandFault, Question, asks_due};
 use cal_timers_report::Style;
 use std::alloc::Global;
 use std::convert::AsStr;
 
-/// The exit status if an output or allocation fails.
+/// The exit status if standard output or allocation fails, or if the zone of an expression isn't loaded.
 const FAILED: u8 = 1;
 
 /// The exit status if the arguments are invalid.
 const USAGE: u8 = 2;
+
+/// The exit status of `due` if there is an error line. With a status from 1 to 254, systemd would skip the service
+/// silently (systemd.service(5), ExecCondition=).
+const NOT_KNOWN: u8 = 255;
 
 /// The system on which the program runs.
 pub trait System: Raw {
@@ -35,7 +40,7 @@ pub trait System: Raw {
 ///
 /// Each question about the system is asked at most once. If `out` fails, for example because it is a pipe that nobody
 /// reads any more, a prefix of the answer was written, the last line on `err` says so, and the status is 1. If `err`
-/// fails, only the status is left to report anything.
+/// fails, only the status is left to report anything. If there is any error line, the status of `due` is [`NOT_KNOWN`].
 pub fn answer_arguments<S: System + Drop, T: AsStr, O: Sink, E: Sink>(
     alloc: Global,
     system: S,
@@ -49,8 +54,10 @@ pub fn answer_arguments<S: System + Drop, T: AsStr, O: Sink, E: Sink>(
     ensures { IsRunOf S.gives (map T.text arguments.now) style result (O.is_failed out.new) (E.is_failed err.new)
         (O.written out.old) (O.written out.new) (E.written err.old) (E.written err.new) }
 {
+    let is_due = asks_due(arguments);
     match answer_for(alloc, system, arguments, style) {
         Ok(answer) => write_answer(
+            is_due,
             answer.out.as_str(),
             answer.err.as_str(),
             answer.status,
@@ -58,15 +65,13 @@ pub fn answer_arguments<S: System + Drop, T: AsStr, O: Sink, E: Sink>(
             err,
         ),
         Err(PlanFault::NoMemory) => {
-            write_answer("", "calendar-timers: out of memory\n", FAILED, out, err)
+            let line = "calendar-timers: out of memory\n";
+            write_answer(is_due, "", line, FAILED, out, err)
         }
-        Err(PlanFault::NoSuchZone(_)) => write_answer(
-            "",
-            "calendar-timers: a zone isn't loaded\n",
-            FAILED,
-            out,
-            err,
-        ),
+        Err(PlanFault::NoSuchZone(_)) => {
+            let line = "calendar-timers: a zone isn't loaded\n";
+            write_answer(is_due, "", line, FAILED, out, err)
+        }
     }
 }
 
@@ -102,7 +107,7 @@ fn answer_on_system<S: System + Drop>(
     question: &Question,
     style: Style,
 ) -> Result<Answer, PlanFault>
-    ensures { IfOk result (λ answer. (clock : Option ℤ) × IsAnswerOn S.gives question.entry.now clock style (string_bytes answer.out)) }
+    ensures { IfOk result (λ answer. (clock : Option ℤ) × IsAnswerOn S.gives question.entry.now clock style (printed_of answer)) }
 {
     let clock = system.clock();
     let root = String::from_str(alloc, question.root.as_str())?;
@@ -110,8 +115,9 @@ fn answer_on_system<S: System + Drop>(
 }
 
 /// Writes both texts, and returns the exit status: `status`, or [`FAILED`] if `out` fails. In this case, a last line on
-/// `err` says so.
+/// `err` says so. If `is_due` and there is an error line, the status is [`NOT_KNOWN`].
 fn write_answer<O: Sink, E: Sink>(
+    is_due: bool,
     answer: &str,
     lines: &str,
     status: u8,
@@ -120,21 +126,31 @@ fn write_answer<O: Sink, E: Sink>(
 ) -> u8
     requires out { O.is_failed out.old ≡ false }
     requires err { E.is_failed err.old ≡ false }
-    ensures { Prints (record { out = answer.now; err = lines.now; status = status }) result (O.is_failed out.new) (E.is_failed err.new)
+    ensures { Prints is_due (record { out = answer.now; err = lines.now; status = status }) result (O.is_failed out.new) (E.is_failed err.new)
         (O.written out.old) (O.written out.new) (E.written err.old) (E.written err.new) }
 {
     match put_all(out, answer.as_bytes()) {
         Ok(()) => {
             // If writing the error lines fails, only the status is left to report anything.
             let _ = put_all(err, lines.as_bytes());
-            status
+            status_unless(is_due, !lines.is_empty(), status)
         }
         Err(_) => {
             let _ = put_pieces(
                 err,
                 &[lines.as_bytes(), b"calendar-timers: output failed\n"],
             );
-            FAILED
+            status_unless(is_due, true, FAILED)
         }
+    }
+}
+
+fn status_unless(is_due: bool, is_error: bool, status: u8) -> u8
+    ensures { result ≡ status_unless is_due is_error status }
+{
+    if is_due && is_error {
+        NOT_KNOWN
+    } else {
+        status
     }
 }

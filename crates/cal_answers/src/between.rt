@@ -1,26 +1,28 @@
 //! The verb `between`: all elapses of several timers in a range of time.
 
-ghost use Rattle.std.specs.Prelude.{◌≡◌, ◌≢◌, ◌≤◌, [], IfOk, int_lt, map, option_map, slice_get, string_bytes};
+ghost use Rattle.std.specs.Prelude.{◌≡◌, ◌≤◌, IfOk, int_lt, map, option_map, slice_get, string_bytes};
 ghost use Rattle.cal_tasks.specs.declared.when.WhenFault;
 ghost use Rattle.cal_tasks.specs.rules.When.{setting_with, when_in};
 ghost use Rattle.cal_timers_report.specs.rules.ReportView.{elapse_seen};
-ghost use Rattle.cal_answers.specs.rules.Output.{IsBetweenOutput, IsOutputOfTexts, IsOutputUntil, IsRangeOutput, between_output};
+ghost use Rattle.cal_answers.specs.rules.Output.{IsAnswerOfTexts, IsAnswerUntil, IsBetweenAnswer, IsRangeAnswer, IsStoppedBy, bad_time, between_output};
+ghost use Rattle.cal_answers.specs.rules.Printed.{IsStopped, printed_of};
 
 use crate::answer::{Answer, Asked, stopped, with_error_lines};
 use cal_load::Loaded;
 use cal_plan::PlanFault;
+use cal_stamp::StampFault;
 use cal_tasks::{WhenFault, between_rows, read_when};
 use cal_timers_report::{UnitElapse, between_json, between_text};
 use cal_zone::Instant;
 use std::alloc::{AllocError, Global};
 
 /// Lists the elapses of timers in a range. The first two targets are the start of the range, which is included, and its
-/// end, which isn't. An end such as `Mon 06:00` resolves to the first such time after the start. The other targets are
-/// those that were loaded.
+/// end, which isn't. An end such as `Mon 06:00` resolves to the first such time after the start. `loaded` is what the
+/// other targets stand for.
 pub(crate) fn between(alloc: Global, asked: Asked<'_>, loaded: &Loaded) -> Result<Answer, PlanFault>
     ensures status { IfOk result (λ answer. answer.status ≤ 2) }
-    ensures out { IfOk result (λ answer.
-        IsBetweenOutput asked.entry loaded.now (map string_bytes asked.entry.targets.now) (string_bytes answer.out)) }
+    ensures answer { IfOk result (λ answer.
+        IsBetweenAnswer asked.entry loaded.now (map string_bytes asked.entry.targets.now) (printed_of answer)) }
 {
     let from = target_at(asked.targets, 0);
     let before = target_at(asked.targets, 1);
@@ -36,7 +38,7 @@ fn target_at(targets: &[String], index: usize) -> Option<&str>
     }
 }
 
-/// Lists the elapses of timers in the range between two times, as they are written.
+/// Lists the elapses of timers in a range. `from` and `before` are the texts of its start and its end.
 fn between_texts(
     alloc: Global,
     asked: Asked<'_>,
@@ -45,8 +47,8 @@ fn between_texts(
     before: Option<&str>,
 ) -> Result<Answer, PlanFault>
     ensures status { IfOk result (λ answer. answer.status ≤ 2) }
-    ensures out { IfOk result (λ answer. IsOutputOfTexts asked.entry loaded.now
-        (option_map (λ text. text.now) from.entry) (option_map (λ text. text.now) before.entry) (string_bytes answer.out)) }
+    ensures answer { IfOk result (λ answer. IsAnswerOfTexts asked.entry loaded.now
+        (option_map (λ text. text.now) from.entry) (option_map (λ text. text.now) before.entry) (printed_of answer)) }
 {
     let Some(from) = from else {
         return stopped(alloc, "FROM and TO are missing");
@@ -60,7 +62,7 @@ fn between_texts(
     }
 }
 
-/// Lists the elapses of timers in a range that starts at `from`. `before` is its end, as it is written.
+/// Lists the elapses of timers in a range that starts at `from`. `before` is the text of its end.
 fn between_from(
     alloc: Global,
     asked: Asked<'_>,
@@ -69,9 +71,9 @@ fn between_from(
     before: &str,
 ) -> Result<Answer, PlanFault>
     ensures status { IfOk result (λ answer. answer.status ≤ 2) }
-    ensures out { IfOk result (λ answer. IsOutputUntil asked.entry loaded.now from.secs
+    ensures answer { IfOk result (λ answer. IsAnswerUntil asked.entry loaded.now from.secs before.now
         (when_in asked.entry.shown.now.secs (setting_with asked.entry.shown asked.entry.range.now.before) from.secs before.now)
-        (string_bytes answer.out)) }
+        (printed_of answer)) }
 {
     match read_when(alloc, asked.shown, &asked.range.before, from, before) {
         Ok(instant) => between_instants(alloc, asked, loaded, from, instant),
@@ -81,14 +83,27 @@ fn between_from(
 
 fn bad_time(alloc: Global, text: &str, fault: WhenFault) -> Result<Answer, PlanFault>
     ensures status { IfOk result (λ answer. answer.status ≤ 2) }
-    ensures out { IfOk result (λ answer. (string_bytes answer.out ≡ []) × (fault ≢ WhenFault.NoMemory)) }
+    ensures stopped { IfOk result (λ answer. IsStoppedBy text.now fault (printed_of answer)) }
 {
-    let WhenFault::NoInstant(fault) = fault else {
-        return Err(PlanFault::NoMemory);
-    };
-    let words = fault.words();
-    let reason = format!(in alloc; "{text}: {words}")?;
+    match fault {
+        WhenFault::NoInstant(fault) => stopped_by(alloc, text, fault),
+        WhenFault::NoMemory => Err(PlanFault::NoMemory),
+    }
+}
+
+fn stopped_by(alloc: Global, text: &str, fault: StampFault) -> Result<Answer, PlanFault>
+    ensures status { IfOk result (λ answer. answer.status ≤ 2) }
+    ensures stopped { IfOk result (λ answer. IsStopped (bad_time text.now fault) (printed_of answer)) }
+{
+    let reason = bad_time_words(alloc, text, fault)?;
     stopped(alloc, reason.as_str())
+}
+
+fn bad_time_words(alloc: Global, text: &str, fault: StampFault) -> Result<String, AllocError>
+    ensures { IfOk result (λ reason. string_bytes reason ≡ bad_time text.now fault) }
+{
+    let words = fault.words();
+    Ok(format!(in alloc; "{text}: {words}")?)
 }
 
 fn between_instants(
@@ -99,8 +114,8 @@ fn between_instants(
     before: Instant,
 ) -> Result<Answer, PlanFault>
     ensures status { IfOk result (λ answer. answer.status ≤ 2) }
-    ensures out { IfOk result (λ answer.
-        IsRangeOutput asked.entry loaded.now from.secs before.secs (int_lt before.secs from.secs) (string_bytes answer.out)) }
+    ensures answer { IfOk result (λ answer.
+        IsRangeAnswer asked.entry loaded.now from.secs before.secs (int_lt before.secs from.secs) (printed_of answer)) }
 {
     if before.secs() < from.secs() {
         return stopped(alloc, "TO is before FROM");

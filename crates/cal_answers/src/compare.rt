@@ -1,17 +1,20 @@
 //! The verb `same`: whether two timers elapse at the same instants.
 
-ghost use Rattle.std.specs.Prelude.{◌≡◌, ◌≤◌, [], IfOk, is_some, map, string_bytes};
+ghost use Rattle.std.specs.Prelude.{◌≡◌, ◌≤◌, ◌++◌, IfOk, OnOk, map, option_map, slice_get, string_bytes};
+ghost use Rattle.std.specs.List.{flat_map};
 ghost use Rattle.cal_tasks.specs.rules.SameReport.{comparison_of};
 ghost use Rattle.cal_timers_report.specs.rules.ReportView.{comparison_seen};
-ghost use Rattle.cal_answers.specs.rules.Output.{IsSameOutput, has_folder, is_loaded_folder, is_named, same_output};
+ghost use Rattle.cal_answers.specs.rules.ErrorText.{has_target, line_unless, lines_of_both};
+ghost use Rattle.cal_answers.specs.rules.Output.{IsComparedAnswer, IsSameAnswer, IsUnloadedPair, folder_of_both, if_folder, is_loaded_folder, is_named, is_same, same_output};
+ghost use Rattle.cal_answers.specs.rules.Printed.{printed_of};
 ghost use Rattle.cal_bytes.specs.rules.Trim.{trim_end_matches};
 ghost use Rattle.cal_machine.specs.rules.Places.{is_slash};
 
 use crate::answer::{
-    Answer, Asked, INVALID, UNUSABLE, fault_lines, push_fault_line, push_ignored_lines,
-    push_masked, stopped,
+    Answer, Asked, INVALID, UNUSABLE, fault_lines, push_all_lines, push_fault_line,
+    push_ignored_lines, push_masked, stopped,
 };
-use cal_load::{Loaded, LoadedTimer, is_path};
+use cal_load::{Loaded, LoadedTimer, TargetFault, is_path};
 use cal_plan::PlanFault;
 use cal_tasks::compare;
 use cal_timers_report::{Comparison, same_json, same_text};
@@ -26,10 +29,11 @@ pub(crate) fn same(
     second: &Loaded,
 ) -> Result<Answer, PlanFault>
     ensures status { IfOk result (λ answer. answer.status ≤ 2) }
-    ensures out { IfOk result (λ answer. IsSameOutput asked.entry first.now second.now (string_bytes answer.out)) }
+    ensures answer { IfOk result (λ answer.
+        IsSameAnswer asked.entry (map string_bytes asked.entry.targets.now) first.now second.now (printed_of answer)) }
 {
     if let Some(folder) = find_folder(asked.targets, first, second) {
-        let reason = format!(in alloc; "{folder}: a folder, not a timer")?;
+        let reason = format!(in alloc; "{folder}: a directory, not a timer")?;
         return stopped(alloc, reason.as_str());
     }
     match (first.timers.first(), second.timers.first()) {
@@ -43,22 +47,28 @@ pub(crate) fn same(
 
 /// Returns the first of the two targets that was loaded as a folder, if there is one.
 fn find_folder<'t>(targets: &'t [String], first: &Loaded, second: &Loaded) -> Option<&'t str>
-    ensures { is_some result ≡ has_folder (map string_bytes targets.now) first.now second.now }
+    ensures { option_map (λ folder. folder.now) result
+        ≡ folder_of_both (slice_get (map string_bytes targets.now) 0) (slice_get (map string_bytes targets.now) 1) first.now second.now }
 {
     let one = targets.first()?.as_str();
     let other = targets.get(1)?.as_str();
-    if is_folder(one, first) {
-        return Some(one);
-    }
-    if is_folder(other, second) {
-        return Some(other);
-    }
-    None
+    if_folder(one, first).or(if_folder(other, second))
 }
 
-/// Returns whether a target was loaded as a folder that has a timer or is empty. A file that is a target is named by the
-/// target itself, and a timer of a folder by the name of its unit. Returns `false` if nothing in the folder could be
-/// loaded; then the errors or masked units are reported instead.
+/// Returns the target if it was loaded as a folder.
+pub(crate) fn if_folder<'t>(target: &'t str, loaded: &Loaded) -> Option<&'t str>
+    ensures { option_map (λ folder. folder.now) result ≡ if_folder target.now loaded.now }
+{
+    if is_folder(target, loaded) {
+        Some(target)
+    } else {
+        None
+    }
+}
+
+/// Returns whether a target was loaded as a folder that has a timer or is empty. A file that is a target is named by
+/// the target itself, and a timer of a folder by the name of its unit. Returns `false` if nothing in the folder could
+/// be loaded; then the errors or masked units are reported instead.
 fn is_folder(target: &str, loaded: &Loaded) -> bool
     ensures { result ≡ is_loaded_folder target.now loaded.now }
 {
@@ -91,18 +101,24 @@ fn compared(
     err: String,
 ) -> Result<Answer, PlanFault>
     ensures status { IfOk result (λ answer. answer.status ≤ 2) }
-    ensures out { IfOk result (λ answer.
-        string_bytes answer.out ≡ same_output asked.entry (comparison_of asked.entry.at one.now other.now)) }
+    ensures answer { IfOk result (λ answer. IsComparedAnswer asked.entry (string_bytes err)
+        (comparison_of asked.entry.at one.now other.now) (printed_of answer)) }
 {
     let found = compare(alloc, asked.at, one, other)?;
     let out = same_output(alloc, asked, &found)?;
-    let is_same = found.one.only.is_none() && found.other.only.is_none();
-    let status = if is_same && err.is_empty() {
+    let status = if is_same(&found) && err.is_empty() {
         0
     } else {
         INVALID
     };
     Ok(Answer { out, err, status })
+}
+
+/// Returns whether both timers elapse at the same instants.
+fn is_same(found: &Comparison<'_>) -> bool
+    ensures { result ≡ is_same (comparison_seen found.now) }
+{
+    found.one.only.is_none() && found.other.only.is_none()
 }
 
 fn same_output(
@@ -123,7 +139,7 @@ fn same_output(
 /// unit, since a masked unit isn't loaded and has no error line.
 fn unloaded(alloc: Global, first: &Loaded, second: &Loaded) -> Result<Answer, PlanFault>
     ensures status { IfOk result (λ answer. answer.status ≤ 2) }
-    ensures out { IfOk result (λ answer. string_bytes answer.out ≡ []) }
+    ensures answer { IfOk result (λ answer. IsUnloadedPair first.now second.now (printed_of answer)) }
 {
     let mut err = lines_of_both(alloc, first, second)?;
     push_masked(&mut err, first.masked.as_slice())?;
@@ -137,18 +153,57 @@ fn unloaded(alloc: Global, first: &Loaded, second: &Loaded) -> Result<Answer, Pl
 
 /// Returns the error lines about two timers, also about lines of their files that are ignored. An error about something
 /// that both timers have, for example a folder of drop-ins, has only one line.
-fn lines_of_both(alloc: Global, first: &Loaded, second: &Loaded) -> Result<String, AllocError> {
+fn lines_of_both(alloc: Global, first: &Loaded, second: &Loaded) -> Result<String, AllocError>
+    ensures { IfOk result (λ lines. string_bytes lines ≡ lines_of_both first.now second.now) }
+{
     let mut lines = fault_lines(alloc, first.faults.as_slice())?;
-    for fault in &second.faults {
-        let is_known = first
-            .faults
-            .iter()
-            .any(|other| other.target == fault.target);
-        if !is_known {
-            push_fault_line(alloc, &mut lines, fault)?;
-        }
-    }
-    push_ignored_lines(alloc, &mut lines, first.timers.as_slice())?;
-    push_ignored_lines(alloc, &mut lines, second.timers.as_slice())?;
+    push_other_faults(
+        alloc,
+        &mut lines,
+        first.faults.as_slice(),
+        second.faults.as_slice(),
+    )?;
+    let mut ignored = Vec::new(alloc);
+    push_ignored_lines(alloc, &mut ignored, first.timers.as_slice())?;
+    push_ignored_lines(alloc, &mut ignored, second.timers.as_slice())?;
+    push_all_lines(&mut lines, ignored.as_slice())?;
     Ok(lines)
+}
+
+/// Appends the error lines about `faults`, except for targets that have an error among `known`.
+fn push_other_faults(
+    alloc: Global,
+    lines: &mut String,
+    known: &[TargetFault],
+    faults: &[TargetFault],
+) -> Result<(), AllocError>
+    ensures { OnOk result (string_bytes lines.new
+        ≡ string_bytes lines.old ++ flat_map (line_unless known.now) faults.now) }
+{
+    for fault in faults {
+        push_line_unless(alloc, lines, known, fault)?;
+    }
+    Ok(())
+}
+
+/// Appends the error line about `fault`, unless its target has an error among `known`.
+pub(crate) fn push_line_unless(
+    alloc: Global,
+    lines: &mut String,
+    known: &[TargetFault],
+    fault: &TargetFault,
+) -> Result<(), AllocError>
+    ensures { OnOk result (string_bytes lines.new ≡ string_bytes lines.old ++ line_unless known.now fault.now) }
+{
+    if has_target(known, fault) {
+        return Ok(());
+    }
+    push_fault_line(alloc, lines, fault)
+}
+
+/// Returns whether one of the errors is about the target of `fault`.
+fn has_target(known: &[TargetFault], fault: &TargetFault) -> bool
+    ensures { result ≡ has_target known.now fault.now }
+{
+    known.iter().any(|other| other.target == fault.target)
 }

@@ -6,7 +6,7 @@ use cal_load::{Loaded, LoadedFiles};
 use cal_unit_index::UnitIndex;
 use cal_zone::Instant;
 
-/// What was found when a question was read.
+/// What was found when reading all that the answer to a question depends on.
 #[derive(Drop)]
 pub enum Found {
     /// The question can't be answered, for this reason.
@@ -18,7 +18,7 @@ pub enum Found {
 /// All that the answer to a question depends on, apart from the question and the style of the output.
 #[derive(Drop)]
 pub struct Known {
-    /// The present.
+    /// The present: that of the question, or else that of the clock.
     pub now: Instant,
     /// The local zone: the zone of expressions that name no zone.
     pub local: LocalClock,
@@ -43,4 +43,7 @@ pub enum LoadedByVerb {
     /// What the first target and the second target stand for.
     Same(Loaded, Loaded),
     Next(Loaded),
+    /// What the target of `due` stands for or, without a target, the timer that started the service. `None` if there is
+    /// no target and no timer started the service.
+    Due(Option<Loaded>),
 }

@@ -1,14 +1,16 @@
 //! The index of the search path, which is needed if a question is about units, and the errors that are found while it
 //! is read.
 
-ghost use Rattle.std.specs.Prelude.{◌≡◌, ◌≤◌, [], IfOk, map, max, not, string_bytes, true};
-ghost use Rattle.std.specs.List.{list_any};
+ghost use Rattle.std.specs.Prelude.{◌≡◌, ◌≤◌, IfOk, map, max, string_bytes, true};
 ghost use Rattle.cal_machine.specs.rules.Machine.{Machine};
-ghost use Rattle.cal_unit_index.specs.rules.Index.{IsIndexOf};
-ghost use Rattle.cal_load.specs.rules.AllTargets.{is_path};
-ghost use Rattle.cal_answers.specs.rules.Found.{IsIndexFor, name_units, needs_units, timer_targets};
+ghost use Rattle.cal_timers_text.specs.rules.ErrorLines.{fault_line, reason_words, subject_line, unread_words};
+ghost use Rattle.cal_unit_index.specs.rules.Index.{IsIndexOf, shown_fault};
+ghost use Rattle.cal_answers.specs.rules.LintTimers.{path_words};
+ghost use Rattle.cal_answers.specs.rules.ErrorText.{fault_lines, unreadable_lines};
+ghost use Rattle.cal_answers.specs.rules.Printed.{printed_of, with_errors};
+ghost use Rattle.cal_answers.specs.rules.Found.{IsIndexFor, has_name, name_units, needs_units, timer_targets};
 
-use crate::answer::{Answer, INVALID, fault_lines};
+use crate::answer::{Answer, fault_lines, with_errors};
 use cal_load::{TargetFault, TargetReason, is_path};
 use cal_machine::Tree;
 use cal_plan::PlanFault;
@@ -39,12 +41,14 @@ pub(crate) fn index_for<T: Tree>(
 }
 
 /// Returns whether a question can be about units: it names no timers, and so is about all units, or it names a timer
-/// that isn't given as a path. `next` is never about units, since its targets are expressions.
+/// that isn't given as a path. `next` is never about units, since its targets are expressions, and `due` is only about
+/// a timer that is named.
 fn has_units(verb: Verb, targets: &[&str]) -> bool
     ensures { result ≡ needs_units verb (map (λ text. text.now) targets.now) }
 {
     match verb {
         Verb::Next => false,
+        Verb::Due => has_name(targets),
         Verb::Between => name_units(timers_of(verb, targets)),
         Verb::List | Verb::Show | Verb::Lint | Verb::Same => name_units(targets),
     }
@@ -58,7 +62,7 @@ fn name_units(timers: &[&str]) -> bool
 
 /// Returns whether at least one of the targets is not a path.
 fn has_name(targets: &[&str]) -> bool
-    ensures { result ≡ list_any (λ target. not (is_path target)) (map (λ text. text.now) targets.now) }
+    ensures { result ≡ has_name (map (λ text. text.now) targets.now) }
 {
     for target in targets {
         if !is_path(target) {
@@ -86,37 +90,35 @@ pub(crate) fn with_unreadable(
     answer: Answer,
 ) -> Result<Answer, PlanFault>
     ensures status { IfOk result (λ changed. changed.status ≤ max answer.status 1) }
-    ensures out { IfOk result (λ changed. changed.out ≡ answer.out) }
+    ensures changed { IfOk result (λ changed. printed_of changed ≡ with_errors (unreadable_lines unreadable.now) (printed_of answer)) }
 {
-    if unreadable.is_empty() {
-        return Ok(answer);
-    }
-    let Answer {
-        out,
-        mut err,
-        status,
-    } = answer;
     let faults = target_faults(alloc, unreadable)?;
     let lines = fault_lines(alloc, faults.as_slice())?;
-    err.push_str(lines.as_str())?;
-    Ok(Answer {
-        out,
-        err,
-        status: status.max(INVALID),
-    })
+    Ok(with_errors(answer, lines.as_str())?)
 }
 
 /// Converts errors about paths to the form in which targets that can't be loaded are reported.
 pub(crate) fn target_faults(
     alloc: Global,
     unreadable: &[UnitFault],
-) -> Result<Vec<TargetFault>, AllocError> {
+) -> Result<Vec<TargetFault>, AllocError>
+    ensures lines { IfOk result (λ faults. fault_lines faults.items ≡ unreadable_lines unreadable.now) }
+    ensures words { IfOk result (λ faults. map unread_words faults.items ≡ map path_words (map shown_fault unreadable.now)) }
+{
     let mut faults = Vec::new(alloc);
     for fault in unreadable {
-        faults.push(TargetFault {
-            target: fault.path.clone()?,
-            reason: TargetReason::Path(fault.path.clone()?, fault.reason),
-        })?;
+        faults.push(target_fault(fault)?)?;
     }
     Ok(faults)
+}
+
+#[tactic(auto, unfolding(cal_timers_text::specs::rules::ErrorLines::unread_words, cal_timers_text::specs::rules::ErrorLines::fault_line))]
+fn target_fault(fault: &UnitFault) -> Result<TargetFault, AllocError>
+    ensures line { IfOk result (λ target. fault_line target ≡ subject_line (string_bytes fault.now.path) (reason_words fault.now.reason)) }
+    ensures words { IfOk result (λ target. unread_words target ≡ path_words (shown_fault fault.now)) }
+{
+    Ok(TargetFault {
+        target: fault.path.clone()?,
+        reason: TargetReason::Path(fault.path.clone()?, fault.reason),
+    })
 }

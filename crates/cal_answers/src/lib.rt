@@ -4,7 +4,9 @@
 mod answer;
 mod arguments_to_bytes;
 mod between;
+mod candidates;
 mod compare;
+mod due;
 mod fault;
 mod found;
 mod index;
@@ -19,6 +21,7 @@ mod search_path;
 mod setting_problems;
 mod timer_problems;
 mod timers;
+mod trigger;
 mod whole;
 
 pub use arguments_to_bytes::{System, answer_arguments};

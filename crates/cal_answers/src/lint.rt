@@ -1,18 +1,34 @@
 //! The verb `lint`: all problems of the files of timers, of the timers themselves, and lines that have no effect.
 
-ghost use Rattle.std.specs.Prelude.{◌≡◌, ◌≤◌, IfOk};
+ghost use Rattle.std.specs.Prelude.{◌≡◌, ◌≤◌, ◌++◌, ℕ, IfOk, List, OnOk, map, string_bytes};
+ghost use Rattle.std.specs.List.{flat_map};
+ghost use Rattle.cal_machine.specs.rules.Machine.{Machine};
+ghost use Rattle.cal_timers_report.specs.rules.Documents.{lint_document};
+ghost use Rattle.cal_timers_text.specs.rules.ErrorLines.{unread_words};
+ghost use Rattle.cal_unit_index.specs.rules.Index.{IsIndexOf};
+ghost use Rattle.cal_answers.specs.rules.ErrorText.{lint_lines, unfound_line};
+ghost use Rattle.cal_answers.specs.rules.LintCandidates.{shown_candidate, with_candidates};
+ghost use Rattle.cal_answers.specs.rules.LintFiles.{AreProblemsOfFiles, AreProblemsOfText, HasAlso};
+ghost use Rattle.cal_answers.specs.rules.LintOutput.{IsLintEndBy, IsLintOutputBy, has_lines, lint_output};
+ghost use Rattle.cal_answers.specs.rules.LintRows.{listed_in, rows_of};
 ghost use Rattle.cal_answers.specs.rules.LintStatus.{lint_status};
+ghost use Rattle.cal_answers.specs.rules.LintTimers.{problems_of_timers, unread, unread_error, unread_errors};
 
-use crate::answer::{Answer, Asked, INVALID, fault_lines, push_fault_line};
+use crate::answer::{Answer, Asked, INVALID, fault_lines};
+use crate::candidates::{Candidate, push_error_about};
+use crate::compare::push_line_unless;
 use crate::index::target_faults;
 use crate::problems::Problems;
+use crate::remarks::is_not_found;
 use crate::setting_problems::add_missing_units;
-use crate::timer_problems::{add_idle, add_timers};
-use cal_lint::{ProblemKind, findings};
-use cal_load::{Loaded, LoadedFiles, TargetFault, TargetReason};
+use crate::timer_problems::{add_failed, add_idle, add_ignored_of};
+use cal_lint::findings;
+use cal_load::{Loaded, LoadedFiles, TargetFault};
 use cal_plan::PlanFault;
+use cal_tasks::Clocked;
+use cal_timers_report::Style;
 use cal_timers_text::{ProblemCounts, unread_words};
-use cal_unit_index::UnitIndex;
+use cal_unit_index::{UnitIndex, UnitText};
 use std::alloc::{AllocError, Global};
 
 /// The maximum size of the text of a file, in bytes. A file has at most 1,048,576 bytes, and each byte that isn't UTF-8
@@ -20,7 +36,8 @@ use std::alloc::{AllocError, Global};
 const MAX_TEXT: usize = 3 * 1_048_576;
 
 /// Returns all problems of the files, each file checked by itself; then what is wrong with the timers that are made of
-/// them; and then warnings about expressions and exceptions that have no effect. `index` is the index of the search path.
+/// them; and then warnings about expressions and exceptions that have no effect. `index` is the index of the search
+/// path.
 pub(crate) fn lint(
     alloc: Global,
     asked: Asked<'_>,
@@ -28,27 +45,71 @@ pub(crate) fn lint(
     files: &LoadedFiles,
     timers: &Loaded,
 ) -> Result<Answer, PlanFault>
-    ensures { IfOk result (λ answer. answer.status ≤ 2) }
+    ensures status { IfOk result (λ answer. answer.status ≤ 2) }
+    ensures out { IfOk result (λ answer. IsLintOutputBy asked.entry index.now files.now timers.now (string_bytes answer.out)) }
+    ensures lines { IfOk result (λ answer. string_bytes answer.err ≡ lint_lines files.now.faults.items timers.now.faults.items) }
+    ensures ended { IfOk result (λ answer. IsLintEndBy asked.entry index.now files.now timers.now (string_bytes answer.err) answer.status) }
 {
-    let mut problems = Problems::new(alloc, asked.style);
-    add_files(alloc, files, &mut problems)?;
-    add_timers(alloc, timers, &mut problems)?;
-    add_missing_units(alloc, index, timers.timers.as_slice(), &mut problems)?;
-    add_idle(alloc, asked.at, timers.timers.as_slice(), &mut problems)?;
-    let err = error_lines(alloc, files.faults.as_slice(), timers)?;
+    let mut problems = Problems::new(alloc);
+    add_files(alloc, asked.style, files.files.as_slice(), &mut problems)?;
+    let found = problems_of_timers(alloc, asked.at, index, timers)?;
+    problems.add_all(alloc, asked.style, found.as_slice())?;
+    let err = error_lines(alloc, files.faults.as_slice(), timers.faults.as_slice())?;
     let counts = problems.counts();
-    let out = if asked.is_json {
-        add_unread(alloc, index, files, timers, &mut problems)?;
-        problems.json(alloc)?
-    } else {
-        problems.text(alloc, counts)?
-    };
-    let status = lint_status(asked.is_strict, counts, !err.is_empty());
+    let status = lint_status(asked.is_strict, counts, has_lines(err.as_str()));
+    let lacking = unread(alloc, index, files, timers)?;
+    let out = lint_output(alloc, asked, lacking.as_slice(), problems)?;
     Ok(Answer { out, err, status })
 }
 
-/// Returns the exit status for these problems. `is_incomplete` says whether there are error lines besides: something
-/// couldn't be read.
+/// Returns the text about these problems, or the JSON document about them and about what can't be read.
+fn lint_output(
+    alloc: Global,
+    asked: Asked<'_>,
+    lacking: &[Candidate],
+    problems: Problems,
+) -> Result<String, AllocError>
+    ensures { IfOk result (λ out. string_bytes out ≡ lint_output asked.entry (map shown_candidate lacking.now) (listed_in problems)) }
+{
+    if !asked.is_json {
+        return problems.text(alloc, problems.counts());
+    }
+    json_with(alloc, asked.style, lacking, problems)
+}
+
+fn json_with(
+    alloc: Global,
+    style: Style,
+    lacking: &[Candidate],
+    problems: Problems,
+) -> Result<String, AllocError>
+    ensures { IfOk result (λ out. string_bytes out ≡ lint_document (rows_of (with_candidates style (listed_in problems) (map shown_candidate lacking.now)))) }
+{
+    let mut all = problems;
+    all.add_all(alloc, style, lacking)?;
+    all.json(alloc)
+}
+
+/// Returns the problems that are found when timers are loaded, in the order in which they are listed.
+fn problems_of_timers(
+    alloc: Global,
+    at: Clocked<'_>,
+    index: &UnitIndex,
+    timers: &Loaded,
+) -> Result<Vec<Candidate>, PlanFault>
+    ensures { IfOk result (λ found. (machine : Machine) (path : List (List ℕ)) → IsIndexOf machine path index.now
+        → map shown_candidate found.items ≡ problems_of_timers at.entry machine path timers.now) }
+{
+    let mut found = Vec::new(alloc);
+    add_failed(alloc, timers.faults.as_slice(), &mut found)?;
+    add_ignored_of(alloc, timers.timers.as_slice(), &mut found)?;
+    add_missing_units(alloc, index, timers.timers.as_slice(), &mut found)?;
+    add_idle(alloc, at, timers.timers.as_slice(), &mut found)?;
+    Ok(found)
+}
+
+/// Returns the exit status for these problems. `is_incomplete` says whether there are also error lines, because
+/// something couldn't be read.
 fn lint_status(is_strict: bool, counts: ProblemCounts, is_incomplete: bool) -> u8
     ensures { result ≡ lint_status is_strict counts is_incomplete }
 {
@@ -59,66 +120,118 @@ fn lint_status(is_strict: bool, counts: ProblemCounts, is_incomplete: bool) -> u
     }
 }
 
-/// Adds an error about everything that can't be read, so that the document has it, too. As text, each has an error line.
-fn add_unread(
+/// Returns whether there are error lines.
+fn has_lines(err: &str) -> bool
+    ensures { result ≡ has_lines err.now }
+{
+    !err.is_empty()
+}
+
+/// Returns an error about everything that can't be read, so that the JSON document has it, too, besides the error lines.
+fn unread(
     alloc: Global,
     index: &UnitIndex,
     files: &LoadedFiles,
     timers: &Loaded,
-    problems: &mut Problems,
-) -> Result<(), AllocError> {
-    add_unread_targets(alloc, files.faults.as_slice(), problems)?;
-    add_unread_targets(alloc, timers.faults.as_slice(), problems)?;
+) -> Result<Vec<Candidate>, AllocError>
+    ensures { IfOk result (λ found. (machine : Machine) (path : List (List ℕ)) → IsIndexOf machine path index.now
+        → map shown_candidate found.items ≡ unread machine path files.now timers.now) }
+{
+    let mut found = Vec::new(alloc);
+    add_unread(alloc, files.faults.as_slice(), &mut found)?;
+    add_unread(alloc, timers.faults.as_slice(), &mut found)?;
     let faults = target_faults(alloc, index.unreadable())?;
-    add_unread_targets(alloc, faults.as_slice(), problems)
+    add_unread(alloc, faults.as_slice(), &mut found)?;
+    Ok(found)
 }
 
-/// Adds an error about each of these that can't be found or read.
-fn add_unread_targets(
+/// Appends an error about each of these targets that can't be found or read.
+fn add_unread(
     alloc: Global,
     faults: &[TargetFault],
-    problems: &mut Problems,
-) -> Result<(), AllocError> {
+    found: &mut Vec<Candidate>,
+) -> Result<(), AllocError>
+    ensures { OnOk result (map shown_candidate found.new.items
+        ≡ map shown_candidate found.old.items ++ unread_errors (map unread_words faults.now)) }
+{
     for fault in faults {
-        if let Some((subject, message)) = unread_words(fault) {
-            problems.add(alloc, ProblemKind::Error, subject, None, message)?;
-        }
+        add_if_unread(alloc, fault, found)?;
     }
     Ok(())
 }
 
-/// Returns the error lines about units, files and folders that can't be read, which are `of_files`, and about timers whose
-/// files are links to nothing.
+fn add_if_unread(
+    alloc: Global,
+    fault: &TargetFault,
+    found: &mut Vec<Candidate>,
+) -> Result<(), AllocError>
+    ensures { OnOk result (map shown_candidate found.new.items
+        ≡ map shown_candidate found.old.items ++ unread_error (unread_words fault.now)) }
+{
+    match unread_words(fault) {
+        Some((subject, message)) => push_error_about(alloc, found, subject, message),
+        None => Ok(()),
+    }
+}
+
+/// Returns the error lines about units, files and folders that can't be read, which are `of_files`, and about timers
+/// whose files are links to nothing.
 fn error_lines(
     alloc: Global,
     of_files: &[TargetFault],
-    timers: &Loaded,
-) -> Result<String, AllocError> {
+    timers: &[TargetFault],
+) -> Result<String, AllocError>
+    ensures { IfOk result (λ lines. string_bytes lines ≡ lint_lines of_files.now timers.now) }
+{
     let mut lines = fault_lines(alloc, of_files)?;
-    for fault in &timers.faults {
-        if is_missing(fault, of_files) {
-            push_fault_line(alloc, &mut lines, fault)?;
-        }
-    }
+    push_unfound(alloc, &mut lines, of_files, timers)?;
     Ok(lines)
 }
 
-/// Returns whether the error says that a timer wasn't found, and `of_files` has no error for the same target.
-fn is_missing(fault: &TargetFault, of_files: &[TargetFault]) -> bool {
-    matches!(fault.reason, TargetReason::NotFound)
-        && !of_files.iter().any(|other| other.target == fault.target)
+/// Appends the error lines about timers that weren't found, unless `of_files` has an error for the same target.
+fn push_unfound(
+    alloc: Global,
+    lines: &mut String,
+    of_files: &[TargetFault],
+    timers: &[TargetFault],
+) -> Result<(), AllocError>
+    ensures { OnOk result (string_bytes lines.new
+        ≡ string_bytes lines.old ++ flat_map (unfound_line of_files.now) timers.now) }
+{
+    for fault in timers {
+        push_if_unfound(alloc, lines, of_files, fault)?;
+    }
+    Ok(())
+}
+
+fn push_if_unfound(
+    alloc: Global,
+    lines: &mut String,
+    of_files: &[TargetFault],
+    fault: &TargetFault,
+) -> Result<(), AllocError>
+    ensures { OnOk result (string_bytes lines.new ≡ string_bytes lines.old ++ unfound_line of_files.now fault.now) }
+{
+    if is_not_found(&fault.reason) {
+        push_line_unless(alloc, lines, of_files, fault)
+    } else {
+        Ok(())
+    }
 }
 
 /// Adds the problems of the files, each file checked by itself.
 fn add_files(
     alloc: Global,
-    files: &LoadedFiles,
+    style: Style,
+    files: &[UnitText],
     problems: &mut Problems,
-) -> Result<(), AllocError> {
-    for file in &files.files {
+) -> Result<(), AllocError>
+    ensures { OnOk result (HasAlso (AreProblemsOfFiles style files.now) (listed_in problems.old) (listed_in problems.new)) }
+{
+    for file in files {
         // systemd accepts comments that aren't UTF-8, so such bytes are replaced instead of being an error.
         let text = String::from_utf8_lossy(alloc, file.bytes.as_slice())?;
-        add_file(alloc, file.path.as_str(), text.as_str(), problems)?;
+        add_file(alloc, style, file.path.as_str(), text.as_str(), problems)?;
     }
     Ok(())
 }
@@ -126,15 +239,16 @@ fn add_files(
 /// Adds the problems of a file. No file has a text longer than [`MAX_TEXT`]. For a longer `text`, adds nothing.
 fn add_file(
     alloc: Global,
+    style: Style,
     path: &str,
     text: &str,
     problems: &mut Problems,
-) -> Result<(), AllocError> {
+) -> Result<(), AllocError>
+    ensures { OnOk result (HasAlso (AreProblemsOfText style path.now text.now) (listed_in problems.old) (listed_in problems.new)) }
+{
     if text.len() > MAX_TEXT {
         return Ok(());
     }
-    for finding in findings(alloc, text)? {
-        problems.add_finding(alloc, path, text, finding)?;
-    }
-    Ok(())
+    let found = findings(alloc, text)?;
+    problems.add_findings(alloc, style, path, text, found)
 }

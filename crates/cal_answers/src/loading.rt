@@ -1,6 +1,6 @@
 //! Loading what the targets of a question stand for.
 
-ghost use Rattle.std.specs.Prelude.{◌≡◌, ℕ, List, [], All, IfOk, length, map, true};
+ghost use Rattle.std.specs.Prelude.{◌≡◌, ℕ, Bool, List, [], All, IfOk, length, map, true};
 ghost use Rattle.cal_machine.specs.rules.Machine.{Machine};
 ghost use Rattle.cal_unit_index.specs.rules.Index.{IsIndexOf};
 ghost use Rattle.cal_load.specs.rules.Loaded.{IsTimerOn};
@@ -15,8 +15,8 @@ use cal_timers_command::Verb;
 use cal_unit_index::UnitIndex;
 use std::alloc::{AllocError, Global};
 
-/// Loads what the targets of a question stand for. If `list`, `lint` or `between` has no targets besides the two times of
-/// `between`, loads the timers that other units start or, if `is_all`, all timers in the search path. `index` is the
+/// Loads what the targets of a question stand for. If `list`, `lint` or `between` has no targets besides the two times
+/// of `between`, loads the timers that other units start or, if `is_all`, all timers in the search path. `index` is the
 /// index of the search path.
 pub(crate) fn load_by_verb<T: Tree>(
     alloc: Global,
@@ -48,11 +48,12 @@ pub(crate) fn load_by_verb<T: Tree>(
         }
         Verb::Same => load_sides(alloc, tree, index, targets),
         Verb::Next => Ok(LoadedByVerb::Next(load_expressions(alloc, tree, targets)?)),
+        Verb::Due => load_due(alloc, tree, index, targets),
     }
 }
 
-/// Loads the timers that the targets name, or those that are taken without a target. Targets that end in `.conf` are left
-/// out: a drop-in is not a timer by itself.
+/// Loads the timers that the targets name. If there are no targets, loads the timers that other units start or, if
+/// `is_all`, all timers. Targets that end in `.conf` are left out: a drop-in is not a timer by itself.
 fn load_whole_timers<T: Tree>(
     alloc: Global,
     tree: &mut T,
@@ -126,4 +127,25 @@ fn load_side<T: Tree>(
         }
         _ => Ok(loaded),
     }
+}
+
+/// Loads the timer that `due` is about, if there is one.
+fn load_due<T: Tree>(
+    alloc: Global,
+    tree: &mut T,
+    index: &UnitIndex,
+    targets: &[&str],
+) -> Result<LoadedByVerb, AllocError>
+    ensures verb { IfOk result (λ loaded. verb_of loaded ≡ Verb.Due) }
+    ensures known { IfOk result (λ loaded. (machine : Machine) (path : List (List ℕ)) → T.shows tree.new machine
+        → IsIndexOf machine path index.now → AreLoadedOn machine path (map (λ text. text.now) targets.now) loaded) }
+    ensures whole { (is_all : Bool) → IfOk result (AreAll (λ machine path. T.shows tree.new machine × IsIndexOf machine path index.now) is_all
+        (map (λ text. text.now) targets.now)) }
+    ensures grows { (machine : Machine) → T.shows tree.new machine → T.shows tree.old machine }
+{
+    if targets.is_empty() {
+        return Ok(LoadedByVerb::Due(None));
+    }
+    let timer = load_timers(alloc, tree, index, targets, false)?;
+    Ok(LoadedByVerb::Due(Some(timer)))
 }

@@ -1,5 +1,16 @@
 //! The problems that `lint` prints.
 
+ghost use Rattle.std.specs.Prelude.{◌≡◌, ◌++◌, ◌∷◌, [], IfOk, OnOk, count_by, map, string_bytes};
+ghost use Rattle.std.specs.List.{flat_map, list_any};
+ghost use Rattle.std.specs.Str.{bytes_eq};
+ghost use Rattle.cal_timers_report.specs.rules.Documents.{lint_document};
+ghost use Rattle.cal_timers_report.specs.rules.ReportView.{problem_seen};
+ghost use Rattle.cal_answers.specs.rules.LintCandidates.{candidate_row, has_in_line, has_in_line_of, has_text, is_left_out, shown_candidate, with_candidate, with_candidates};
+ghost use Rattle.cal_answers.specs.rules.LintFiles.{listed_finding};
+ghost use Rattle.cal_answers.specs.rules.LintOutput.{text_with};
+ghost use Rattle.cal_answers.specs.rules.LintRows.{is_error_at, is_error_kind, is_problem_at, lint_counts, listed_as, listed_in, rows_of, shown_problem};
+
+use crate::candidates::{Candidate, Unless};
 use cal_lint::{Finding, ProblemKind};
 use cal_timers_report::{ProblemRow, Style, lint_json};
 use cal_timers_text::{ProblemCounts, finding_text, message_of, problem_text, push_counts};
@@ -8,7 +19,6 @@ use std::alloc::{AllocError, Global};
 /// The problems that were found so far, in the order in which they are printed.
 #[derive(Debug, Drop)]
 pub(crate) struct Problems {
-    style: Style,
     list: Vec<Problem>,
 }
 
@@ -22,33 +32,77 @@ struct Problem {
     is_error: bool,
     message: String,
     suggestion: Option<String>,
-    /// What is printed about the problem for people: one or more lines.
+    /// The lines about the problem in the text output.
     text: String,
 }
 
+impl Problem {
+    /// Returns whether the problem is in this line of a file.
+    fn is_at(&self, file: &str, line: u32) -> bool
+        ensures { result ≡ is_problem_at file.now line (shown_problem self.now) }
+    {
+        match self.line {
+            Some(own) => own == line && self.file.as_str() == file,
+            None => false,
+        }
+    }
+
+    fn is_error_at(&self, file: &str, line: u32) -> bool
+        ensures { result ≡ is_error_at file.now line (shown_problem self.now) }
+    {
+        self.is_error && self.is_at(file, line)
+    }
+
+    fn has_text(&self, text: &str) -> bool
+        ensures { result ≡ bytes_eq (string_bytes self.now.text) text.now }
+    {
+        self.text.as_str() == text
+    }
+}
+
 impl Problems {
-    pub(crate) fn new(alloc: Global, style: Style) -> Problems {
+    pub(crate) fn new(alloc: Global) -> Problems
+        ensures { listed_in result ≡ [] }
+    {
         Problems {
-            style,
             list: Vec::new(alloc),
         }
     }
 
-    /// Adds a problem of a line in the file at a path, whose content is `text`.
-    pub(crate) fn add_finding(
+    /// Adds the problems of the file at a path, whose content is `text`.
+    pub(crate) fn add_findings(
         &mut self,
         alloc: Global,
+        style: Style,
+        path: &str,
+        text: &str,
+        found: Vec<Finding>,
+    ) -> Result<(), AllocError>
+        ensures { OnOk result (listed_in self.new ≡ listed_in self.old ++ map (listed_finding style path.now text.now) found.items) }
+    {
+        for finding in found {
+            self.add_finding(alloc, style, path, text, finding)?;
+        }
+        Ok(())
+    }
+
+    fn add_finding(
+        &mut self,
+        alloc: Global,
+        style: Style,
         path: &str,
         text: &str,
         finding: Finding,
-    ) -> Result<(), AllocError> {
-        let shown = finding_text(alloc, path, text, &finding, self.style)?;
+    ) -> Result<(), AllocError>
+        ensures { OnOk result (listed_in self.new ≡ listed_in self.old ++ listed_finding style path.now text.now finding ∷ []) }
+    {
+        let shown = finding_text(alloc, path, text, &finding, style)?;
         let message = message_of(alloc, finding.problem, finding.mistake)?;
         self.list.push(Problem {
             file: String::from_str(alloc, path)?,
             line: Some(finding.line),
             column: Some(finding.column),
-            is_error: matches!(finding.kind, ProblemKind::Error),
+            is_error: is_error(finding.kind),
             message,
             suggestion: finding.suggestion,
             text: shown,
@@ -56,63 +110,125 @@ impl Problems {
         Ok(())
     }
 
-    /// Adds a problem of a line or, without `line`, of the timer with the name `file`, unless the same one is there
-    /// already: several timers can have the same drop-in.
-    pub(crate) fn add(
+    /// Adds these candidates in order. Leaves out each candidate that is listed already, or that isn't listed because
+    /// of a problem in its line.
+    pub(crate) fn add_all(
         &mut self,
         alloc: Global,
-        kind: ProblemKind,
-        file: &str,
-        line: Option<u32>,
-        message: &str,
-    ) -> Result<(), AllocError> {
-        let text = problem_text(alloc, file, line, kind, message, self.style)?;
-        if self.list.iter().any(|known| known.text == text) {
+        style: Style,
+        candidates: &[Candidate],
+    ) -> Result<(), AllocError>
+        ensures { OnOk result (listed_in self.new ≡ with_candidates style (listed_in self.old) (map shown_candidate candidates.now)) }
+    {
+        for candidate in candidates {
+            self.add(alloc, style, candidate)?;
+        }
+        Ok(())
+    }
+
+    fn add(&mut self, alloc: Global, style: Style, candidate: &Candidate) -> Result<(), AllocError>
+        ensures { OnOk result (listed_in self.new ≡ with_candidate style (listed_in self.old) (shown_candidate candidate.now)) }
+    {
+        let text = problem_text(
+            alloc,
+            candidate.file.as_str(),
+            candidate.line,
+            candidate.kind,
+            candidate.message.as_str(),
+            style,
+        )?;
+        if self.leaves_out(candidate, text.as_str()) {
             return Ok(());
         }
+        self.push(alloc, candidate, text)
+    }
+
+    fn push(&mut self, alloc: Global, candidate: &Candidate, text: String) -> Result<(), AllocError>
+        ensures { OnOk result (listed_in self.new
+            ≡ listed_in self.old ++ record { row = candidate_row (shown_candidate candidate.now); text = string_bytes text } ∷ []) }
+    {
         self.list.push(Problem {
-            file: String::from_str(alloc, file)?,
-            line,
+            file: String::from_str(alloc, candidate.file.as_str())?,
+            line: candidate.line,
             column: None,
-            is_error: matches!(kind, ProblemKind::Error),
-            message: String::from_str(alloc, message)?,
+            is_error: is_error(candidate.kind),
+            message: String::from_str(alloc, candidate.message.as_str())?,
             suggestion: None,
             text,
         })?;
         Ok(())
     }
 
+    /// Returns whether a candidate with this text is left out.
+    fn leaves_out(&self, candidate: &Candidate, text: &str) -> bool
+        ensures { result ≡ is_left_out (shown_candidate candidate.now) text.now (listed_in self.now) }
+    {
+        self.has_in_line_of(candidate) || self.has_text(text)
+    }
+
+    fn has_in_line_of(&self, candidate: &Candidate) -> bool
+        ensures { result ≡ has_in_line_of candidate.now.unless (string_bytes candidate.now.file) candidate.now.line (listed_in self.now) }
+    {
+        match candidate.line {
+            Some(line) => self.has_in_line(candidate.unless, candidate.file.as_str(), line),
+            None => false,
+        }
+    }
+
+    fn has_in_line(&self, unless: Unless, file: &str, line: u32) -> bool
+        ensures { result ≡ has_in_line unless file.now line (listed_in self.now) }
+    {
+        match unless {
+            Unless::Same => false,
+            Unless::ErrorInLine => self.has_error_at(file, line),
+            Unless::ProblemInLine => self.has_problem_at(file, line),
+        }
+    }
+
     /// Returns whether a line of a file has an error or a warning.
-    pub(crate) fn has_problem_at(&self, file: &str, line: u32) -> bool {
-        self.list.iter().any(|known| known.line == Some(line) && known.file.as_str() == file)
+    fn has_problem_at(&self, file: &str, line: u32) -> bool
+        ensures { result ≡ list_any (λ problem. is_problem_at file.now line problem.row) (listed_in self.now) }
+    {
+        self.list.iter().any(|known| known.is_at(file, line))
     }
 
     /// Returns whether a line of a file has an error.
-    pub(crate) fn has_error_at(&self, file: &str, line: u32) -> bool {
-        self.list.iter().any(|known| known.is_error
-            && known.line == Some(line)
-            && known.file.as_str() == file)
+    fn has_error_at(&self, file: &str, line: u32) -> bool
+        ensures { result ≡ list_any (λ problem. is_error_at file.now line problem.row) (listed_in self.now) }
+    {
+        self.list.iter().any(|known| known.is_error_at(file, line))
     }
 
-    pub(crate) fn counts(&self) -> ProblemCounts {
-        let errors = self.list.iter().filter(|problem| problem.is_error).count();
+    fn has_text(&self, text: &str) -> bool
+        ensures { result ≡ has_text text.now (listed_in self.now) }
+    {
+        self.list.iter().any(|known| known.has_text(text))
+    }
+
+    pub(crate) fn counts(&self) -> ProblemCounts
+        ensures { result ≡ lint_counts (listed_in self.now) }
+    {
+        let list = self.list.as_slice();
+        let errors = error_count(list);
         ProblemCounts {
             errors,
-            warnings: self.list.len().saturating_sub(errors),
+            warnings: list.len().saturating_sub(errors),
         }
     }
 
     /// Returns the text about each problem and, if there are errors or warnings, a last line that says how many.
-    pub(crate) fn text(&self, alloc: Global, counts: ProblemCounts) -> Result<String, AllocError> {
+    pub(crate) fn text(&self, alloc: Global, counts: ProblemCounts) -> Result<String, AllocError>
+        ensures { IfOk result (λ text. string_bytes text ≡ text_with counts (listed_in self.now)) }
+    {
         let mut text = String::new(alloc);
-        for problem in &self.list {
-            text.push_str(problem.text.as_str())?;
-        }
+        push_texts(&mut text, self.list.as_slice())?;
         push_counts(&mut text, counts)?;
         Ok(text)
     }
 
-    pub(crate) fn json(&self, alloc: Global) -> Result<String, AllocError> {
+    pub(crate) fn json(&self, alloc: Global) -> Result<String, AllocError>
+        ensures { IfOk result (λ text. string_bytes text ≡ lint_document (rows_of (listed_in self.now))) }
+    {
         let mut rows = Vec::new(alloc);
         for problem in &self.list {
             rows.push(row_of(problem))?;
@@ -121,13 +237,40 @@ impl Problems {
     }
 }
 
-fn row_of(problem: &Problem) -> ProblemRow<'_> {
+fn push_texts(text: &mut String, problems: &[Problem]) -> Result<(), AllocError>
+    ensures { OnOk result (string_bytes text.new
+        ≡ string_bytes text.old ++ flat_map (λ problem. problem.text) (map listed_as problems.now)) }
+{
+    for problem in problems {
+        text.push_str(problem.text.as_str())?;
+    }
+    Ok(())
+}
+
+fn error_count(problems: &[Problem]) -> usize
+    ensures { result ≡ count_by (λ problem. problem.is_error) problems.now }
+{
+    problems.iter().filter(|problem| problem.is_error).count()
+}
+
+fn is_error(kind: ProblemKind) -> bool
+    ensures { result ≡ is_error_kind kind }
+{
+    match kind {
+        ProblemKind::Error => true,
+        ProblemKind::Warning => false,
+    }
+}
+
+fn row_of(problem: &Problem) -> ProblemRow<'_>
+    ensures { problem_seen result ≡ shown_problem problem.now }
+{
     ProblemRow {
         file: problem.file.as_str(),
         line: problem.line,
         column: problem.column,
         is_error: problem.is_error,
         message: problem.message.as_str(),
-        suggestion: problem.suggestion.as_ref().map(|text| text.as_str()),
+        suggestion: problem.suggestion.as_deref(),
     }
 }

@@ -50,7 +50,7 @@ fn range_text<'t>(verb: Verb, targets: &'t [&'t str], index: usize) -> &'t str
 {
     match verb {
         Verb::Between => text_at(targets, index),
-        Verb::List | Verb::Show | Verb::Lint | Verb::Same | Verb::Next => "",
+        Verb::List | Verb::Show | Verb::Lint | Verb::Same | Verb::Next | Verb::Due => "",
     }
 }
 
@@ -101,7 +101,8 @@ fn zone_if_usable<T: Tree>(alloc: Global, tree: &mut T, name: &str) -> Result<Zo
     Ok(table)
 }
 
-/// Returns the table that was loaded. If loading failed, returns a table with only UTC, unless memory ran out.
+/// Returns the table that was loaded, or a table with only UTC if loading failed. Fails only if loading failed because
+/// memory ran out.
 fn table_of(alloc: Global, loaded: Result<ZoneTable, ZonesFault>) -> Result<ZoneTable, AllocError>
     ensures { IfOk result (IsTableOf loaded) }
 {

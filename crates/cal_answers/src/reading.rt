@@ -15,6 +15,7 @@ use crate::loading::load_by_verb;
 use crate::local_clock::LocalClock;
 use crate::range_zones::RangeZones;
 use crate::search_path::search_path;
+use crate::trigger::targets_on;
 use cal_machine::{Entry, Raw, Recorder, Tree, TreeFault};
 use cal_timers_command::{Question, Verb};
 use cal_timers_text::zones_text;
@@ -62,7 +63,8 @@ fn read_known<T: Tree>(
     let local = find_local(alloc, tree, question)?;
     let shown = find_shown(alloc, tree, question)?;
     let path = search_path(alloc, tree, question.is_user)?;
-    let targets = texts_of(alloc, question.targets.as_slice())?;
+    let named = targets_on(alloc, tree, question.verb, question.targets.as_slice())?;
+    let targets = texts_of(alloc, named.as_slice())?;
     let range = RangeZones::load(alloc, tree, question.verb, targets.as_slice())?;
     let index = index_for(
         alloc,
@@ -97,10 +99,10 @@ fn present(given: Option<i64>, clock: Option<i64>) -> Option<Instant>
     Instant::new(given.or(clock)?)
 }
 
-/// Checks that the root of the tree is a folder. Checks nothing if `root`, the root that the question names, is empty.
+/// Checks that `root`, the value of `--root`, leads to a folder. Checks nothing if `root` is empty.
 ///
-/// Elsewhere, the root is the empty path, and counts as a folder without a check. Here it is `/`: if the root that the
-/// question names is a link, the slash makes the system follow this link.
+/// The paths of `tree` are below this folder. Elsewhere, the folder itself is the empty path, and counts as a folder
+/// without a check. Here it is asked for as `/`: if `root` is a link, the slash makes the system follow this link.
 fn check_root<T: Tree>(alloc: Global, tree: &mut T, root: &str) -> Result<(), ReadFault>
     ensures fault { IfErr result (λ fault. fault ≢ ReadFault.NoMemory → (machine : Machine) → T.shows tree.new machine → HasNoRoot machine root.now) }
     ensures grows { (machine : Machine) → T.shows tree.new machine → T.shows tree.old machine }
@@ -112,7 +114,7 @@ fn check_root<T: Tree>(alloc: Global, tree: &mut T, root: &str) -> Result<(), Re
         Ok(Entry::Folder) => Ok(()),
         Err(TreeFault::NoMemory) => Err(ReadFault::NoMemory),
         Ok(_) | Err(TreeFault::Unreadable(_)) => {
-            Err(ReadFault::reason(alloc, "--root: not a folder"))
+            Err(ReadFault::reason(alloc, "--root: not a directory"))
         }
     }
 }
@@ -149,12 +151,12 @@ fn is_next(verb: Verb) -> bool
 {
     match verb {
         Verb::Next => true,
-        Verb::List | Verb::Show | Verb::Lint | Verb::Between | Verb::Same => false,
+        Verb::List | Verb::Show | Verb::Lint | Verb::Between | Verb::Same | Verb::Due => false,
     }
 }
 
-/// Finds the zone in which the answer shows times. The caller has already found the zone of `--zone`, so if the option is
-/// unclear, it is `--in`.
+/// Finds the zone in which the answer shows times. The caller has already found the zone of `--zone`, so if the option
+/// is unclear, it is `--in`.
 fn find_shown<T: Tree>(
     alloc: Global,
     tree: &mut T,
@@ -199,7 +201,7 @@ fn shows_times(verb: Verb) -> bool
 {
     match verb {
         Verb::Lint => false,
-        Verb::List | Verb::Show | Verb::Between | Verb::Same | Verb::Next => true,
+        Verb::List | Verb::Show | Verb::Between | Verb::Same | Verb::Next | Verb::Due => true,
     }
 }
 

@@ -1,11 +1,17 @@
-//! Error lines that depend on the whole answer: a hint at a misspelled verb, folders without timers, and a missing zone file.
+//! Error lines that depend on the whole answer: a hint at a misspelled verb, folders without timers, and a missing zone
+//! file.
 
-ghost use Rattle.std.specs.Prelude.{◌≡◌, ◌≤◌, IfOk, max};
+ghost use Rattle.std.specs.Prelude.{◌≡◌, ◌≤◌, ◌++◌, IfOk, OnOk, codes, map, max, option_map, slice_get, string_bytes};
+ghost use Rattle.std.specs.List.{list_any};
+ghost use Rattle.cal_answers.specs.rules.ErrorText.{is_not_found};
+ghost use Rattle.cal_answers.specs.rules.Found.{timer_targets};
+ghost use Rattle.cal_answers.specs.rules.Printed.{printed_of, with_notes};
+ghost use Rattle.cal_answers.specs.rules.Remarks.{empty_folder_lines, folder_lines, is_drop_in, hint_about, hint_at, if_unknown, is_assumed, is_empty, is_nothing, is_unknown, may_find_nothing, shows_no_times, unknown_target, verb_hint, with_empty_folders, zone_note};
 
-use crate::answer::{Answer, INVALID, UNUSABLE};
+use crate::answer::{Answer, UNUSABLE, with_errors, with_notes};
 use crate::found::LoadedByVerb;
 use crate::local_clock::LocalClock;
-use cal_load::{Loaded, TargetReason};
+use cal_load::{Loaded, TargetFault, TargetReason};
 use cal_timers_command::{Question, Verb};
 use std::alloc::{AllocError, Global};
 
@@ -18,34 +24,77 @@ pub(crate) fn with_verb_hint(
     answer: Answer,
 ) -> Result<Answer, AllocError>
     ensures status { IfOk result (λ changed. changed.status ≡ answer.status) }
-    ensures out { IfOk result (λ changed. changed.out ≡ answer.out) }
+    ensures changed { IfOk result (λ changed. printed_of changed
+        ≡ with_notes (verb_hint (map string_bytes question.entry.now.targets.items) loaded.now) (printed_of answer)) }
 {
-    let Some(word) = first_unknown(question, loaded) else {
-        return Ok(answer);
+    let hint = verb_hint(alloc, question.targets.as_slice(), loaded)?;
+    with_notes(answer, hint.as_str())
+}
+
+/// Returns the hint at a misspelled verb, or an empty text.
+fn verb_hint(alloc: Global, targets: &[String], loaded: &LoadedByVerb) -> Result<String, AllocError>
+    ensures { IfOk result (λ hint. string_bytes hint ≡ verb_hint (map string_bytes targets.now) loaded.now) }
+{
+    match unknown_target(targets, loaded) {
+        Some(word) => hint_at(alloc, Verb::similar(alloc, word)?),
+        None => Ok(String::new(alloc)),
+    }
+}
+
+fn hint_at(alloc: Global, verb: Option<Verb>) -> Result<String, AllocError>
+    ensures { IfOk result (λ hint. string_bytes hint ≡ hint_at verb) }
+{
+    let Some(verb) = verb else {
+        return Ok(String::new(alloc));
     };
-    let Some(verb) = Verb::similar(alloc, word)? else {
-        return Ok(answer);
-    };
-    let Answer {
-        out,
-        mut err,
-        status,
-    } = answer;
-    err.push_str("calendar-timers: did you mean the verb '")?;
-    err.push_str(verb.name())?;
-    err.push_str("'?\n")?;
-    Ok(Answer { out, err, status })
+    let name = verb.name();
+    Ok(format!(in alloc; "calendar-timers: did you mean the verb '{name}'?\n")?)
 }
 
 /// Returns the first target of `list` if there is no such timer.
-fn first_unknown<'q>(question: &'q Question, loaded: &LoadedByVerb) -> Option<&'q str> {
-    let LoadedByVerb::List(timers) = loaded else {
-        return None;
-    };
-    let first = question.targets.first()?.as_str();
-    let is_unknown = timers.faults.iter().any(|fault| matches!(fault.reason, TargetReason::NotFound)
-        && fault.target.as_str() == first);
-    if is_unknown { Some(first) } else { None }
+fn unknown_target<'q>(targets: &'q [String], loaded: &LoadedByVerb) -> Option<&'q str>
+    ensures { option_map (λ target. target.now) result ≡ unknown_target (map string_bytes targets.now) loaded.now }
+{
+    match loaded {
+        LoadedByVerb::List(timers) => {
+            if_unknown(timers.faults.as_slice(), targets.first()?.as_str())
+        }
+        LoadedByVerb::Show(_)
+        | LoadedByVerb::Lint(..)
+        | LoadedByVerb::Between(_)
+        | LoadedByVerb::Same(..)
+        | LoadedByVerb::Next(_)
+        | LoadedByVerb::Due(_) => None,
+    }
+}
+
+/// Returns the target if one of the errors says that there is no such timer.
+fn if_unknown<'q>(faults: &[TargetFault], target: &'q str) -> Option<&'q str>
+    ensures { option_map (λ target. target.now) result ≡ if_unknown faults.now target.now }
+{
+    if has_unknown(faults, target) {
+        Some(target)
+    } else {
+        None
+    }
+}
+
+fn has_unknown(faults: &[TargetFault], target: &str) -> bool
+    ensures { result ≡ list_any (is_unknown target.now) faults.now }
+{
+    faults.iter().any(|fault| is_unknown(target, fault))
+}
+
+fn is_unknown(target: &str, fault: &TargetFault) -> bool
+    ensures { result ≡ is_unknown target.now fault.now }
+{
+    is_not_found(&fault.reason) && fault.target.as_str() == target
+}
+
+pub(crate) fn is_not_found(reason: &TargetReason) -> bool
+    ensures { result ≡ is_not_found reason.now }
+{
+    matches!(reason, TargetReason::NotFound)
 }
 
 /// For verbs that show times, adds a line if the local zone is UTC only because `/etc/localtime` doesn't lead to a zone
@@ -56,67 +105,122 @@ pub(crate) fn with_zone_note(
     answer: Answer,
 ) -> Result<Answer, AllocError>
     ensures status { IfOk result (λ changed. changed.status ≡ answer.status) }
-    ensures out { IfOk result (λ changed. changed.out ≡ answer.out) }
+    ensures changed { IfOk result (λ changed. printed_of changed ≡ with_notes (zone_note verb local.now) (printed_of answer)) }
 {
-    if matches!(verb, Verb::Lint) || !matches!(local, LocalClock::Assumed) {
-        return Ok(answer);
-    }
-    let Answer {
-        out,
-        mut err,
-        status,
-    } = answer;
-    err.push_str("calendar-timers: /etc/localtime: no zone file, so the local zone is UTC\n")?;
-    Ok(Answer { out, err, status })
+    with_notes(answer, zone_note(verb, local))
 }
 
-/// Adds an error line for each target if loading the targets found nothing at all, and none of them ends in `.conf`: then
-/// they are folders without timers. Changes nothing if the question can't be answered.
+fn zone_note(verb: Verb, local: &LocalClock) -> &'static str
+    ensures { result.now ≡ zone_note verb local.now }
+{
+    if shows_no_times(verb) || !is_assumed(local) {
+        ""
+    } else {
+        "calendar-timers: /etc/localtime: no zone file, so the local zone is UTC\n"
+    }
+}
+
+fn shows_no_times(verb: Verb) -> bool
+    ensures { result ≡ shows_no_times verb }
+{
+    matches!(verb, Verb::Lint)
+}
+
+fn is_assumed(local: &LocalClock) -> bool
+    ensures { result ≡ is_assumed local.now }
+{
+    matches!(local, LocalClock::Assumed)
+}
+
+/// Adds an error line for each target if loading the targets found nothing at all, and none of them ends in `.conf`:
+/// then they are folders without timers. Changes nothing if the question can't be answered.
 pub(crate) fn with_empty_folders(
+    alloc: Global,
     question: &Question,
     loaded: &LoadedByVerb,
     answer: Answer,
 ) -> Result<Answer, AllocError>
     ensures status { IfOk result (λ changed. changed.status ≤ max answer.status 1) }
-    ensures out { IfOk result (λ changed. changed.out ≡ answer.out) }
+    ensures changed { IfOk result (λ changed. printed_of changed ≡ with_empty_folders
+        (timer_targets question.entry.now.verb (map string_bytes question.entry.now.targets.items)) loaded.now (printed_of answer)) }
 {
-    let folders = targets_after_times(question);
-    if answer.status == UNUSABLE || may_find_nothing(folders) || !is_nothing(loaded) {
+    if answer.status == UNUSABLE {
         return Ok(answer);
     }
-    let Answer {
-        out,
-        mut err,
-        status,
-    } = answer;
-    for folder in folders {
-        err.push_str(folder.as_str())?;
-        err.push_str(": no timers in this folder\n")?;
+    let lines = empty_folder_lines(alloc, targets_after_times(question), loaded)?;
+    with_errors(answer, lines.as_str())
+}
+
+/// Returns a line for each target if all of them are folders without timers.
+fn empty_folder_lines(
+    alloc: Global,
+    targets: &[String],
+    loaded: &LoadedByVerb,
+) -> Result<String, AllocError>
+    ensures { IfOk result (λ lines. string_bytes lines ≡ empty_folder_lines (map string_bytes targets.now) loaded.now) }
+{
+    let mut lines = String::new(alloc);
+    if !may_find_nothing(targets) && is_nothing(loaded) {
+        push_folder_lines(&mut lines, targets)?;
     }
-    Ok(Answer {
-        out,
-        err,
-        status: status.max(INVALID),
-    })
+    Ok(lines)
+}
+
+fn push_folder_lines(lines: &mut String, folders: &[String]) -> Result<(), AllocError>
+    ensures { OnOk result (string_bytes lines.new
+        ≡ string_bytes lines.old ++ folder_lines (map string_bytes folders.now)) }
+{
+    for folder in folders {
+        push_folder_line(lines, folder.as_str())?;
+    }
+    Ok(())
+}
+
+fn push_folder_line(lines: &mut String, folder: &str) -> Result<(), AllocError>
+    ensures { OnOk result (string_bytes lines.new
+        ≡ string_bytes lines.old ++ (folder.now ++ codes ": no timers in this directory\n")) }
+{
+    lines.push_str(folder)?;
+    lines.push_str(": no timers in this directory\n")
 }
 
 /// Returns whether nothing may be found although the targets aren't folders: if there are none, or if one of them is a
 /// drop-in, which `lint` skips if it is a mask.
-fn may_find_nothing(targets: &[String]) -> bool {
-    targets.is_empty() || targets.iter().any(|target| target.ends_with(".conf"))
+fn may_find_nothing(targets: &[String]) -> bool
+    ensures { result ≡ may_find_nothing (map string_bytes targets.now) }
+{
+    targets.is_empty() || has_drop_in(targets)
+}
+
+fn has_drop_in(targets: &[String]) -> bool
+    ensures { result ≡ list_any is_drop_in (map string_bytes targets.now) }
+{
+    targets.iter().any(|target| is_drop_in(target.as_str()))
+}
+
+fn is_drop_in(target: &str) -> bool
+    ensures { result ≡ is_drop_in target.now }
+{
+    target.as_bytes().ends_with(b".conf")
 }
 
 /// Returns the targets without the two times of `between`.
-fn targets_after_times(question: &Question) -> &[String] {
+fn targets_after_times(question: &Question) -> &[String]
+    ensures { map string_bytes result.now ≡ timer_targets question.entry.now.verb (map string_bytes question.entry.now.targets.items) }
+{
     match question.verb {
         Verb::Between => question.targets.get(2..).unwrap_or(&[]),
-        _ => question.targets.as_slice(),
+        Verb::List | Verb::Show | Verb::Lint | Verb::Same | Verb::Next | Verb::Due => {
+            question.targets.as_slice()
+        }
     }
 }
 
-/// Returns whether loading found nothing at all: no timer, no file, no masked unit and no error. `same` and `next` take
-/// no folders.
-fn is_nothing(loaded: &LoadedByVerb) -> bool {
+/// Returns whether loading found nothing at all: no timer, no file, no masked unit and no error. `same`, `next` and
+/// `due` take no folders.
+fn is_nothing(loaded: &LoadedByVerb) -> bool
+    ensures { result ≡ is_nothing loaded.now }
+{
     match loaded {
         LoadedByVerb::List(timers) | LoadedByVerb::Show(timers) | LoadedByVerb::Between(timers) => {
             is_empty(timers)
@@ -124,10 +228,12 @@ fn is_nothing(loaded: &LoadedByVerb) -> bool {
         LoadedByVerb::Lint(files, timers) => {
             files.files.is_empty() && files.faults.is_empty() && is_empty(timers)
         }
-        LoadedByVerb::Same(..) | LoadedByVerb::Next(_) => false,
+        LoadedByVerb::Same(..) | LoadedByVerb::Next(_) | LoadedByVerb::Due(_) => false,
     }
 }
 
-fn is_empty(loaded: &Loaded) -> bool {
+fn is_empty(loaded: &Loaded) -> bool
+    ensures { result ≡ is_empty loaded.now }
+{
     loaded.timers.is_empty() && loaded.masked.is_empty() && loaded.faults.is_empty()
 }

@@ -1,5 +1,5 @@
-//! The search path for a question, which depends on variables of the environment. A variable that isn't UTF-8 or can't be
-//! read counts as one that isn't set.
+//! The search path for a question, which depends on variables of the environment. A variable that isn't UTF-8 or can't
+//! be read counts as one that isn't set.
 
 ghost use Rattle.std.specs.Prelude.{◌≡◌, ◌≢◌, IfErr, IfOk, None, Some, map, option_map, string_bytes};
 ghost use Rattle.cal_machine.specs.rules.Machine.{Machine};
@@ -74,7 +74,11 @@ fn usual_user_path<T: Tree>(alloc: Global, tree: &mut T) -> Result<Option<Vec<St
 }
 
 /// Returns the value of a variable, or `None` if it isn't set, isn't UTF-8 or can't be read.
-fn variable<T: Tree>(alloc: Global, tree: &mut T, name: &str) -> Result<Option<String>, AllocError>
+pub(crate) fn variable<T: Tree>(
+    alloc: Global,
+    tree: &mut T,
+    name: &str,
+) -> Result<Option<String>, AllocError>
     ensures known { IfOk result (λ value. (machine : Machine) → T.shows tree.new machine
         → variable_on machine name.now ≡ option_map string_bytes value) }
     ensures grows { (machine : Machine) → T.shows tree.new machine → T.shows tree.old machine }

@@ -1,9 +1,10 @@
-//! The verbs that show the next elapses: `list`, `show` and `next`. The answers of `show` and `next` have the same form.
+//! The verbs that show the next elapses: `list`, `show` and `next`. `show` and `next` have answers of the same form.
 
 ghost use Rattle.std.specs.Prelude.{◌≡◌, ◌≤◌, IfOk, map, string_bytes};
 ghost use Rattle.std.specs.List.{AllZip};
 ghost use Rattle.cal_timers_report.specs.rules.ReportView.{timer_seen, unit_seen};
-ghost use Rattle.cal_answers.specs.rules.Output.{IsListOutput, IsShowOutput, IsShownAs, list_output, listed_masked, show_output};
+ghost use Rattle.cal_answers.specs.rules.Output.{IsListAnswer, IsShowAnswer, IsShownAs, list_output, listed_masked, show_output};
+ghost use Rattle.cal_answers.specs.rules.Printed.{printed_of};
 
 use crate::answer::{Answer, Asked, with_error_lines};
 use cal_load::Loaded;
@@ -13,11 +14,11 @@ use cal_timers_report::{ListRow, ShownTimer, list_json, list_text, show_json, sh
 use cal_timers_text::warnings_of;
 use std::alloc::{AllocError, Global};
 
-/// Lists the next elapse of each timer, soonest first. Masked units are left out if the question is only about units that
-/// other units start, since systemd doesn't start a masked unit.
+/// Lists the next elapse of each timer, soonest first. Masked units are left out if the question is only about units
+/// that other units start, since systemd doesn't start a masked unit.
 pub(crate) fn list(alloc: Global, asked: Asked<'_>, loaded: &Loaded) -> Result<Answer, PlanFault>
     ensures status { IfOk result (λ answer. answer.status ≤ 2) }
-    ensures out { IfOk result (λ answer. IsListOutput asked.entry loaded.now (string_bytes answer.out)) }
+    ensures answer { IfOk result (λ answer. IsListAnswer asked.entry loaded.now (printed_of answer)) }
 {
     let rows = list_rows(alloc, asked.at, loaded, listed_masked(asked, loaded))?;
     let out = list_output(alloc, asked, rows.as_slice())?;
@@ -49,7 +50,7 @@ fn list_output(alloc: Global, asked: Asked<'_>, rows: &[ListRow<'_>]) -> Result<
 /// Shows each timer with its files and its next elapses.
 pub(crate) fn show(alloc: Global, asked: Asked<'_>, loaded: &Loaded) -> Result<Answer, PlanFault>
     ensures status { IfOk result (λ answer. answer.status ≤ 2) }
-    ensures out { IfOk result (λ answer. IsShowOutput asked.entry loaded.now (string_bytes answer.out)) }
+    ensures answer { IfOk result (λ answer. IsShowAnswer asked.entry loaded.now (printed_of answer)) }
 {
     let timers = shown_timers(alloc, asked, loaded)?;
     let out = show_output(alloc, asked, timers.as_slice(), loaded.masked.as_slice())?;
@@ -66,7 +67,7 @@ fn shown_timers<'l>(
 {
     let mut timers: Vec<ShownTimer<'l>> = Vec::new(alloc);
     for timer in &loaded.timers {
-        let warnings = warnings_of(alloc, timer)?;
+        let warnings = warnings_of(alloc, asked.at, timer)?;
         let shown = shown_timer(alloc, asked.at, timer, warnings, asked.count)?;
         timers.push(shown)?;
     }

@@ -1,7 +1,8 @@
 //! A whole run: from a question to the answer, on one machine.
 
-ghost use Rattle.std.specs.Prelude.{◌≤◌, IfOk, string_bytes};
+ghost use Rattle.std.specs.Prelude.{◌≤◌, IfOk};
 ghost use Rattle.cal_answers.specs.rules.Output.{IsAnswerOn};
+ghost use Rattle.cal_answers.specs.rules.Printed.{printed_of};
 
 use crate::answer::{Answer, answer_question};
 use crate::reading::read_question;
@@ -11,8 +12,8 @@ use cal_timers_command::Question;
 use cal_timers_report::Style;
 use std::alloc::Global;
 
-/// Reads all that the answer to a question depends on, and answers it. Each question about the machine is asked of `raw`
-/// at most once.
+/// Reads all that the answer to a question depends on, and answers it. Each question about the machine is asked of
+/// `raw` at most once.
 ///
 /// `clock` is the time that the machine's clock shows, in seconds of Unix time, or `None` if the clock can't be read.
 /// If the question names a present, `clock` isn't used. Fails only if allocation fails.
@@ -24,7 +25,7 @@ pub(crate) fn answer_on<R: Raw + Drop>(
     style: Style,
 ) -> Result<Answer, PlanFault>
     ensures status { IfOk result (λ answer. answer.status ≤ 2) }
-    ensures out { IfOk result (λ answer. IsAnswerOn R.gives question.entry.now clock style (string_bytes answer.out)) }
+    ensures answer { IfOk result (λ answer. IsAnswerOn R.gives question.entry.now clock style (printed_of answer)) }
 {
     let found = read_question(alloc, raw, question, clock)?;
     answer_question(alloc, question, &found, style)

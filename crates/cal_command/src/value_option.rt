@@ -44,7 +44,7 @@ pub(crate) const ZONES: ValueOption = ValueOption {
 pub(crate) const NOW: ValueOption = ValueOption {
     name: "now",
     value_name: "@N",
-    help: "Present time in Unix seconds [default: the clock]",
+    help: "Current time in Unix seconds [default: the clock]",
 };
 
 /// The options of the verbs that compute elapses, in the order in which the help lists them.

@@ -1,8 +1,10 @@
 mod ClosedFormLemmas
 mod ClosedPartLemmas
+mod ColumnLemmas
 mod DigitLemmas
 mod DoubtsRows
 mod FindingsLemmas
+mod InstanceLemmas
 mod KeyRows
 mod OpenStepRows
 mod SectionsLemmas

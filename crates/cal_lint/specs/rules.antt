@@ -1,10 +1,13 @@
 -- What the manuals and this project's own rules say. The laws and the contracts of this crate cite these definitions.
 pub mod ClosedSteps
+pub mod Columns
+pub mod Crontab
 pub mod Doubts
 pub mod Findings
 pub mod Hints
 pub mod IgnoredValues
 pub mod InstallNames
+pub mod Instances
 pub mod OpenSteps
 pub mod Sections
 pub mod Systemd252

@@ -1,8 +1,12 @@
 //! Converting the five fields of a crontab to a calendar expression (crontab(5)).
 
-ghost use Rattle.std.specs.Prelude.{◌<◌, IfSome};
+ghost use Rattle.std.specs.Prelude.{◌≡◌, ◌<◌, IfOk, IfSome};
+ghost use Rattle.std.specs.List.{list_all};
+ghost use Rattle.std.specs.Option.{is_some, option_map};
+ghost use Rattle.cal_bytes.specs.rules.Separators.{words};
+ghost use Rattle.cal_lint.specs.rules.Crontab.{are_crontab, five_words, is_crontab, is_field_byte, shown_fields};
 
-use cal_bytes::are_digits;
+use cal_bytes::{are_digits, first_word};
 use std::alloc::{AllocError, Global};
 
 /// The values that a field of a crontab can have.
@@ -32,44 +36,105 @@ const MONTHS: Limits = Limits {
     greatest: 12,
 };
 
+/// The five fields of a line of a crontab.
+#[derive(Clone, Copy)]
+struct CrontabFields<'t> {
+    minute: &'t str,
+    hour: &'t str,
+    day: &'t str,
+    month: &'t str,
+    weekday: &'t str,
+}
+
 /// Converts the five fields of a crontab to a calendar expression, which may be invalid. Returns `None` if `text`
 /// doesn't have five words, or if one of the first four has a character other than digits, `*`, `/`, `,` and `-`.
 /// Otherwise, returns an empty text if no expression is known that stands for the same times.
-pub(crate) fn from_crontab(alloc: Global, text: &str) -> Result<Option<String>, AllocError> {
-    let mut fields = text.split_whitespace();
-    let (Some(minute), Some(hour), Some(day), Some(month), Some(weekday), None) = (
-        fields.next(),
-        fields.next(),
-        fields.next(),
-        fields.next(),
-        fields.next(),
-        fields.next(),
-    ) else {
+#[tactic(auto, unfolding(crate::specs::rules::Crontab::is_crontab))]
+pub(crate) fn from_crontab(alloc: Global, text: &str) -> Result<Option<String>, AllocError>
+    ensures { IfOk result (λ expr. is_some expr ≡ is_crontab text.now) }
+{
+    let Some(fields) = crontab_fields(text) else {
         return Ok(None);
     };
-    if !is_field(minute) || !is_field(hour) || !is_field(day) || !is_field(month) {
+    if !are_crontab(fields) {
         return Ok(None);
     }
     let mut expr = String::new(alloc);
-    // If neither the day of the month nor the weekday is `*`, cron runs on each day that matches at least one of the
-    // two. No single expression can say that.
-    let is_known = (weekday == "*" || day == "*")
-        && push_weekdays(&mut expr, weekday)?
-        && push_field(&mut expr, "*-", MONTHS, month)?
-        && push_field(&mut expr, "-", DAYS, day)?
-        && push_field(&mut expr, " ", HOURS, hour)?
-        && push_field(&mut expr, ":", MINUTES, minute)?;
-    if is_known {
+    if push_expr(&mut expr, fields)? {
         Ok(Some(expr))
     } else {
         Ok(Some(String::new(alloc)))
     }
 }
 
+/// Returns whether a text looks like the five fields of a crontab.
+#[tactic(auto, unfolding(crate::specs::rules::Crontab::is_crontab))]
+pub(crate) fn is_crontab(text: &str) -> bool
+    ensures { result ≡ is_crontab text.now }
+{
+    match crontab_fields(text) {
+        Some(fields) => are_crontab(fields),
+        None => false,
+    }
+}
+
+/// Splits a text into words at blanks. Returns `None` if there aren't exactly five words.
+fn crontab_fields(text: &str) -> Option<CrontabFields<'_>>
+    ensures { option_map shown_fields result ≡ five_words (words text.now) }
+{
+    let (minute, rest) = first_word(text)?;
+    let (hour, rest) = first_word(rest)?;
+    let (day, rest) = first_word(rest)?;
+    let (month, rest) = first_word(rest)?;
+    let (weekday, rest) = first_word(rest)?;
+    match first_word(rest) {
+        Some(_) => None,
+        None => Some(CrontabFields {
+            minute,
+            hour,
+            day,
+            month,
+            weekday,
+        }),
+    }
+}
+
+/// Returns whether the first four fields consist only of digits, `*`, `/`, `,` and `-`.
+fn are_crontab(fields: CrontabFields<'_>) -> bool
+    ensures { result ≡ are_crontab (shown_fields fields.entry) }
+{
+    is_field(fields.minute)
+        && is_field(fields.hour)
+        && is_field(fields.day)
+        && is_field(fields.month)
+}
+
+/// Appends the expression that stands for the same times as the fields. Returns `false` if it isn't known.
+fn push_expr(expr: &mut String, fields: CrontabFields<'_>) -> Result<bool, AllocError> {
+    // If neither the day of the month nor the weekday begins with `*`, cron runs on each day that matches at least one
+    // of the two, which no single expression can say. Pairs such as `*/2` and `1`, for which cron runs on each day that
+    // matches both, aren't converted either.
+    let is_known = (fields.weekday == "*" || fields.day == "*")
+        && push_weekdays(expr, fields.weekday)?
+        && push_field(expr, "*-", MONTHS, fields.month)?
+        && push_field(expr, "-", DAYS, fields.day)?
+        && push_field(expr, " ", HOURS, fields.hour)?
+        && push_field(expr, ":", MINUTES, fields.minute)?;
+    Ok(is_known)
+}
+
 /// Returns whether a word consists only of digits, `*`, `/`, `,` and `-`. This is true of the fields of a crontab,
 /// except those with names, such as `jan`.
-fn is_field(word: &str) -> bool {
-    word.as_bytes().iter().all(|byte| matches!(byte, b'0'..=b'9' | b'*' | b'/' | b',' | b'-'))
+fn is_field(word: &str) -> bool
+    ensures { result ≡ list_all is_field_byte word.now }
+{
+    word.as_bytes().iter().all(|byte| is_field_byte(*byte))
+}
+
+fn is_field_byte(byte: u8) -> bool
+    ensures { result ≡ is_field_byte byte }
+{
+    byte.is_ascii_digit() || byte == b'*' || byte == b'/' || byte == b',' || byte == b'-'
 }
 
 /// Appends `lead` and a field of a crontab as a component of an expression. Returns `false` if it isn't known what the
@@ -94,8 +159,8 @@ fn push_field(
     Ok(true)
 }
 
-/// Appends an item of a field as a part of a component. Returns `false` if the step after a `*` isn't from 1 to 9999, or
-/// if a single number has a step: crontab(5) has steps only after `*` and ranges. Anything else isn't checked here.
+/// Appends an item of a field as a part of a component. Returns `false` if the step after a `*` isn't from 1 to 9999,
+/// or if a single number has a step: crontab(5) has steps only after `*` and ranges. Anything else isn't checked here.
 fn push_item(expr: &mut String, limits: Limits, item: &str) -> Result<bool, AllocError> {
     let (values, step) = match item.split_once('/') {
         Some((values, step)) => (values, Some(step)),
@@ -127,8 +192,8 @@ fn push_all(expr: &mut String, limits: Limits, step: Option<&str>) -> Result<boo
     };
     let Limits { least, greatest } = limits;
     write!(expr, "{least}")?;
-    // If the step doesn't divide the number of values, systemd 252 may skip the least value after the last multiple,
-    // unless the range has an end.
+    // If the step doesn't divide the number of values, systemd 252 may compute the step wrongly unless it has an end:
+    // see `OpenStepFlaw`.
     if (greatest.saturating_sub(least).saturating_add(1)) % number != 0 {
         write!(expr, "..{greatest}")?;
     }

@@ -1,5 +1,9 @@
 //! Common mistakes in the words of invalid calendar expressions, and what to write instead of them.
 
+ghost use Rattle.std.specs.Prelude.{IfOk, IfSome, IsTrue};
+ghost use Rattle.std.specs.Option.{option_map};
+ghost use Rattle.cal_lint.specs.rules.Hints.{is_of_word};
+
 use crate::hints::{Hint, Mistake, is_valid_expression};
 use cal_bytes::are_digits;
 use cal_civil::begins_with_letter;
@@ -42,7 +46,9 @@ struct Rewritten {
 
 /// Replaces each word of `text` that is a known mistake. Returns a hint with the first of these mistakes and the new
 /// text, or `None` if no word is a known mistake. There is no new text if `am` or `pm` is a word by itself.
-pub(crate) fn rewrite_words(alloc: Global, text: &str) -> Result<Option<Hint>, AllocError> {
+pub(crate) fn rewrite_words(alloc: Global, text: &str) -> Result<Option<Hint>, AllocError>
+    ensures { IfOk result (λ found. IfSome (option_map (λ hint. hint.mistake) found) (λ mistake. IsTrue (is_of_word mistake))) }
+{
     if has_noon_word(text) {
         return Ok(Some(Hint {
             mistake: Mistake::TwelveHours,
@@ -84,7 +90,9 @@ fn push_word(
     joined: &mut String,
     is_first: bool,
     word: &str,
-) -> Result<Option<Mistake>, AllocError> {
+) -> Result<Option<Mistake>, AllocError>
+    ensures { IfOk result (λ found. IfSome found (λ mistake. IsTrue (is_of_word mistake))) }
+{
     match rewrite(alloc, is_first, word)? {
         Some(Rewritten { mistake, word }) => {
             joined.push_str(word.as_str())?;
@@ -97,7 +105,9 @@ fn push_word(
     }
 }
 
-fn rewrite(alloc: Global, is_first: bool, word: &str) -> Result<Option<Rewritten>, AllocError> {
+fn rewrite(alloc: Global, is_first: bool, word: &str) -> Result<Option<Rewritten>, AllocError>
+    ensures { IfOk result (λ found. IfSome found (λ rewritten. IsTrue (is_of_word rewritten.mistake))) }
+{
     if begins_with_letter(word.as_bytes()) {
         return if is_first && !is_valid_expression(alloc, word)? {
             rewrite_name(alloc, word)
@@ -123,7 +133,10 @@ fn clock(
     mistake: Mistake,
     hour: u8,
     minute: u8,
-) -> Result<Option<Rewritten>, AllocError> {
+) -> Result<Option<Rewritten>, AllocError>
+    requires { IsTrue (is_of_word mistake) }
+    ensures { IfOk result (λ found. IfSome found (λ rewritten. IsTrue (is_of_word rewritten.mistake))) }
+{
     let word = format!(in alloc; "{hour:02}:{minute:02}")?;
     Ok(Some(Rewritten { mistake, word }))
 }
@@ -173,7 +186,9 @@ fn pointed(word: &str) -> Option<(u8, u8)> {
 }
 
 /// Rewrites a UTC offset without minutes, or a year and a month without a day. Returns `None` for any other word.
-fn rewrite_signed(alloc: Global, word: &str) -> Result<Option<Rewritten>, AllocError> {
+fn rewrite_signed(alloc: Global, word: &str) -> Result<Option<Rewritten>, AllocError>
+    ensures { IfOk result (λ found. IfSome found (λ rewritten. IsTrue (is_of_word rewritten.mistake))) }
+{
     if let Some(hour) = word.strip_prefix('+') {
         return offset(alloc, '+', hour);
     }
@@ -194,7 +209,9 @@ fn rewrite_signed(alloc: Global, word: &str) -> Result<Option<Rewritten>, AllocE
 }
 
 /// Rewrites a UTC offset of whole hours. Returns `None` unless `hour` has one or two digits and is at most 25.
-fn offset(alloc: Global, sign: char, hour: &str) -> Result<Option<Rewritten>, AllocError> {
+fn offset(alloc: Global, sign: char, hour: &str) -> Result<Option<Rewritten>, AllocError>
+    ensures { IfOk result (λ found. IfSome found (λ rewritten. IsTrue (is_of_word rewritten.mistake))) }
+{
     let Some(hour) = number_below(hour, 26) else {
         return Ok(None);
     };
@@ -217,7 +234,9 @@ fn year_month(word: &str) -> Option<u8> {
 
 /// Rewrites a word that begins with a letter: a misspelled shorthand, or a list of weekdays. Returns `None` if the word
 /// resembles neither.
-fn rewrite_name(alloc: Global, word: &str) -> Result<Option<Rewritten>, AllocError> {
+fn rewrite_name(alloc: Global, word: &str) -> Result<Option<Rewritten>, AllocError>
+    ensures { IfOk result (λ found. IfSome found (λ rewritten. IsTrue (is_of_word rewritten.mistake))) }
+{
     if let Some(name) = find_near(alloc, word)? {
         return Ok(Some(Rewritten {
             mistake: Mistake::Shorthand,

@@ -10,12 +10,12 @@ ghost use Rattle.std.specs.Char.{is_ascii_alphabetic};
 ghost use Rattle.cal_bytes.specs.rules.Trim.{trim_matches};
 ghost use Rattle.cal_bytes.specs.rules.Separators.{is_blank};
 ghost use Rattle.cal_spec.specs.computed.Expr.{expr_in};
-ghost use Rattle.cal_lint.specs.rules.Hints.{is_comment_mark, is_span, mistake_in};
+ghost use Rattle.cal_lint.specs.rules.Hints.{IsMistakeIn, is_comment_mark, is_span, mistake_in};
 ghost use Rattle.cal_lint.specs.rules.Systemd252.{IsNotRejected};
 ghost use Rattle.cal_lint.specs.declared.hints.Mistake.{Mistake};
 
 use crate::accepted::accepted_text;
-use crate::crontab::from_crontab;
+use crate::crontab::{from_crontab, is_crontab};
 use crate::hint_words::rewrite_words;
 use cal_bytes::{trim_blanks, trim_blanks_end};
 use cal_civil::is_utc_name;
@@ -65,8 +65,8 @@ pub struct Hint {
 /// expression or doesn't resemble a known mistake. Fails only if allocation fails.
 pub fn find_hint(alloc: Global, text: &str) -> Result<Option<Hint>, AllocError>
     ensures invalid { IfOk result (λ found. IfSome found (λ hint. is_ok (expr_in text.now) ≡ false)) }
-    ensures mistake { IfOk result (λ found. is_ok (expr_in text.now) ≡ false → (mistake : Mistake)
-        → mistake_in (trim_matches is_blank text.now) ≡ Some mistake → option_map (λ hint. hint.mistake) found ≡ Some mistake) }
+    ensures mistake { IfOk result (λ found. is_ok (expr_in text.now) ≡ false
+        → IsMistakeIn (trim_matches is_blank text.now) (option_map (λ hint. hint.mistake) found)) }
     ensures instead { IfOk result (λ found. IfSome found (λ hint. IfSome hint.instead (λ instead.
         IsNotRejected (string_bytes instead)))) }
 {
@@ -107,8 +107,8 @@ fn keep_accepted(alloc: Global, text: Option<String>) -> Result<Option<String>, 
     accepted_text(alloc, text)
 }
 
-/// Returns whether a text is a valid expression that names no zone, or a zone that is `UTC` or has a `/` in its name, as
-/// most zones have.
+/// Returns whether a text is a valid expression that names no zone, or a zone that is `UTC` or has a `/` in its name,
+/// as most zones have.
 fn has_likely_zone(alloc: Global, text: &str) -> Result<bool, AllocError> {
     let expr = match read_expr(alloc, text) {
         Ok(expr) => expr,
@@ -124,12 +124,11 @@ fn has_likely_zone(alloc: Global, text: &str) -> Result<bool, AllocError> {
 /// Returns a hint for `text`, which has no leading or trailing blanks. Doesn't check that `text` is invalid, or that
 /// the suggestion is valid.
 fn hint_for(alloc: Global, text: &str) -> Result<Option<Hint>, AllocError>
-    ensures { IfOk result (λ found. (mistake : Mistake) → mistake_in text.now ≡ Some mistake
-        → option_map (λ hint. hint.mistake) found ≡ Some mistake) }
+    ensures { IfOk result (λ found. IsMistakeIn text.now (option_map (λ hint. hint.mistake) found)) }
 {
     match mistake_in(text) {
         Some(mistake) => hint_with(alloc, mistake, text),
-        None => hint_for_words(alloc, text),
+        None => rewrite_words(alloc, text),
     }
 }
 
@@ -147,6 +146,8 @@ fn mistake_in(text: &str) -> Option<Mistake>
         Some(Mistake::Now)
     } else if is_span(text) {
         Some(Mistake::Span)
+    } else if is_crontab(text) {
+        Some(Mistake::Crontab)
     } else {
         None
     }
@@ -154,46 +155,39 @@ fn mistake_in(text: &str) -> Option<Mistake>
 
 /// Returns a hint with this mistake. If the mistake is an assignment in place of its value, the hint suggests the
 /// value. If it is a comment after the expression, the hint suggests the text before the comment. In both cases,
-/// further mistakes in the suggestion are corrected, too. If the mistake is neither of these two, there is no
-/// suggestion.
+/// further mistakes in the suggestion are corrected, too. For the fields of a crontab, the hint suggests the expression
+/// that stands for the same times. For all other mistakes, there is no suggestion.
 fn hint_with(alloc: Global, mistake: Mistake, text: &str) -> Result<Option<Hint>, AllocError>
     ensures { IfOk result (λ found. option_map (λ hint. hint.mistake) found ≡ Some mistake) }
 {
-    let expression = match mistake {
-        Mistake::Assignment => assigned_expression(text),
-        Mistake::Comment => before_comment(text),
+    let instead = match mistake {
+        Mistake::Assignment => rewritten(alloc, assigned_expression(text))?,
+        Mistake::Comment => rewritten(alloc, before_comment(text))?,
+        Mistake::Crontab => from_crontab(alloc, text)?,
         _ => None,
-    };
-    let instead = match expression {
-        Some(expression) => rewritten(alloc, expression)?,
-        None => None,
     };
     Ok(Some(Hint { mistake, instead }))
 }
 
-/// Returns a hint for the fields of a crontab, or otherwise for mistakes in single words. Returns `None` if `text` has
-/// neither.
-fn hint_for_words(alloc: Global, text: &str) -> Result<Option<Hint>, AllocError> {
-    match from_crontab(alloc, text)? {
-        Some(instead) => Ok(Some(Hint {
-            mistake: Mistake::Crontab,
-            instead: Some(instead),
-        })),
-        None => rewrite_words(alloc, text),
-    }
-}
-
-/// Returns `text` without surrounding blanks, and with its mistakes corrected as [`hint_for_words`] does.
-fn rewritten(alloc: Global, text: &str) -> Result<Option<String>, AllocError> {
+/// If `text` is the fields of a crontab, returns the expression for them. Otherwise, returns `text` without surrounding
+/// blanks and with its mistakes in single words corrected. Returns `None` if `text` is `None`, or if the corrected text
+/// isn't known.
+fn rewritten(alloc: Global, text: Option<&str>) -> Result<Option<String>, AllocError> {
+    let Some(text) = text else {
+        return Ok(None);
+    };
     let text = trim_blanks(text);
-    match hint_for_words(alloc, text)? {
+    if let Some(expr) = from_crontab(alloc, text)? {
+        return Ok(Some(expr));
+    }
+    match rewrite_words(alloc, text)? {
         Some(hint) => Ok(hint.instead),
         None => Ok(Some(String::from_str(alloc, text)?)),
     }
 }
 
-/// Returns the value of an assignment if its key, ignoring case, is one of those that expressions follow. If anything
-/// else is before the `=`, the value may be only a part of the expression.
+/// Returns the value of an assignment to `OnCalendar` or `X-ExceptOnCalendar`, ignoring case. Returns `None` for any
+/// other key, since the text after the `=` may then be only a part of the expression.
 fn assigned_expression(text: &str) -> Option<&str> {
     let (key, value) = text.split_once('=')?;
     let key = trim_blanks(key).as_bytes();

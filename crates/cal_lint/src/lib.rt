@@ -1,5 +1,5 @@
-//! Advice on timer units beyond the errors in them: what systemd 252 rejects, what to write instead of common mistakes,
-//! valid expressions that may not mean what their author thinks, and keys, sections and lines that systemd 252 ignores.
+//! Advice on timer units: besides the errors in them, what systemd 252 rejects, computes wrongly or ignores, what to
+//! write instead of common mistakes, and which valid expressions may not mean what their author thinks.
 #![tactic(auto)]
 
 mod accepted;
@@ -11,6 +11,7 @@ mod hint_words;
 mod hints;
 mod ignored_values;
 mod install_names;
+mod instances;
 mod older_systemd;
 mod open_steps;
 mod problems;

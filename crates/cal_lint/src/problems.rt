@@ -8,11 +8,12 @@ ghost use Rattle.std.specs.Option.{option_to_list};
 ghost use Rattle.cal_timer.specs.rules.Assignments.{assignment_of};
 ghost use Rattle.cal_timer.specs.rules.LineView.{line_at};
 ghost use Rattle.cal_timer.specs.rules.TimerView.{shown_assignment};
-ghost use Rattle.cal_lint.specs.rules.Findings.{HasGoodSuggestion, assigned_problems, begins_with_bracket, findings_in, found_problems, header_problem, placed_line, problem_at, problem_kind_of, problems_of, shown_finding, timer_faults};
+ghost use Rattle.cal_lint.specs.rules.Columns.{first_column, value_in};
+ghost use Rattle.cal_lint.specs.rules.Findings.{HasGoodSuggestion, assigned_problems, begins_with_bracket, findings_in, header_problem, line_problems, placed_line, problem_at, problem_in, problem_kind_of, problems_of, shown_finding, timer_faults};
 ghost use Rattle.cal_lint.specs.rules.InstallNames.{has_bad_name};
 ghost use Rattle.cal_lint.specs.declared.problems.Problem.TheVariants.{BadUnitName};
 
-use crate::columns::{first_column, value_column};
+use crate::columns::{first_column, physical_line, physical_lines, value_column};
 use crate::doubts::Doubt;
 use crate::hints::Mistake;
 use crate::install_names::has_bad_name;
@@ -31,11 +32,11 @@ use std::alloc::{AllocError, Global};
 /// How serious a problem is.
 #[derive(Clone, Copy, PartialEq, Eq, Debug)]
 pub enum ProblemKind {
-    /// This project or systemd 252 rejects the expression, systemd 252 stops reading the file, or the timer can't be
-    /// enabled.
+    /// This project or systemd 252 rejects the expression, no usual instance makes it valid, systemd 252 stops reading
+    /// the file, or the timer can't be enabled.
     Error,
-    /// systemd 252 ignores the line, or accepts the expression but computes it wrongly, or the expression may not mean what
-    /// its author thinks.
+    /// systemd 252 ignores the line, or accepts the expression but computes it wrongly, or the expression may not mean
+    /// what its author thinks.
     Warning,
 }
 
@@ -44,6 +45,9 @@ pub enum ProblemKind {
 pub enum Problem {
     /// The expression or the exception is invalid, or its list is full.
     Invalid(TimerFault),
+    /// The instance, `%i` or `%I`, is the only specifier of the expression or exception, and no usual instance makes it
+    /// valid.
+    NoInstanceFits,
     /// Neither systemd 252 nor this project knows the key in this section. systemd ignores the line.
     UnknownKey(Section),
     /// systemd 252 rejects the expression, which is valid here.
@@ -57,14 +61,14 @@ pub enum Problem {
     /// The line opens a section that systemd doesn't know in timers, and whose name doesn't begin with `X-`. systemd
     /// ignores the lines in it.
     UnknownSection,
-    /// The line comes before the first section.
+    /// The line comes before the first section header, so systemd ignores it.
     OutsideSection,
-    /// The line has no `=`.
+    /// The line isn't an assignment, since it has no `=`. systemd ignores it.
     NoEquals,
-    /// The line begins with `=`.
+    /// The line begins with `=`, so systemd ignores it.
     NoKey,
-    /// The setting in the section `Install` has a name for which `systemctl enable` fails: it isn't that of a unit, or an
-    /// alias isn't a timer.
+    /// The setting in the section `Install` has a name for which `systemctl enable` fails: one that isn't a unit name,
+    /// or an alias that isn't the name of a timer.
     BadUnitName,
     /// systemd ignores the setting, which is of this kind, because of its value.
     IgnoredValue(SettingKind),
@@ -79,6 +83,7 @@ impl Problem {
     {
         match self {
             Problem::Invalid(_)
+            | Problem::NoInstanceFits
             | Problem::Rejected(_)
             | Problem::BadHeader
             | Problem::BadUnitName => ProblemKind::Error,
@@ -92,11 +97,11 @@ impl Problem {
 pub struct Finding {
     /// The number of the line, from 1. A continued line has the number of its first physical line.
     pub line: u32,
-    /// The byte of the line, counted from 1, at which the problem begins. For an invalid expression or exception, this is
-    /// the first byte of the word at fault (see [`fault_span`]); for [`Doubt::Abbreviation`], that of the abbreviation.
-    /// For all other problems of a value, it is the first byte of the value. If the line is continued and doesn't
-    /// contain the whole value, the column is 1. For problems of a key, a header or a whole line, it is the first byte
-    /// after the line's leading blanks.
+    /// The byte of the line, counted from 1, at which the problem begins. For an invalid expression or exception, this
+    /// is the first byte of the word at fault (see [`fault_span`]); for [`Doubt::Abbreviation`], that of the
+    /// abbreviation. For all other problems of a value, it is the first byte of the value. If the line is continued and
+    /// doesn't contain the whole value, the column is 1. For problems of a key, a header or a whole line, it is the
+    /// first byte after the line's leading blanks.
     pub column: u32,
     pub kind: ProblemKind,
     pub problem: Problem,
@@ -114,16 +119,16 @@ struct UnitLine<'l> {
     number: u32,
     /// The text of the line, without blanks at its start and its end.
     text: &'l str,
-    /// The first physical line.
+    /// The line of the file with which the logical line begins. Columns are counted in it.
     physical: &'l str,
 }
 
 /// Returns all problems of the lines of a unit file (systemd.timer(5), Options; systemd.syntax(7)), in the order of the
 /// lines. The first line has the number 1. `text` must have fewer than 2^32 - 1 bytes.
 ///
-/// In the sections that systemd reads in timers, `Unit`, `Timer` and `Install`, unknown keys are problems, and so are lines
-/// that aren't assignments. Besides, the problems are lines before the first section, unknown sections and invalid section
-/// headers; names in `Install` for which `systemctl enable` fails; and in `Timer`:
+/// In the sections that systemd reads in timers, `Unit`, `Timer` and `Install`, unknown keys are problems, and so are
+/// lines that aren't assignments. Further problems are lines before the first section, unknown sections and
+/// invalid section headers; names in `Install` for which `systemctl enable` fails; and in `Timer`:
 ///
 /// - invalid lines, as [`find_faults`] returns them;
 /// - what [`crate::systemd_252`] and [`crate::find_open_step_flaw`] return for valid expressions, except for
@@ -131,9 +136,10 @@ struct UnitLine<'l> {
 /// - what [`crate::find_doubt`] returns for valid expressions and exceptions;
 /// - other settings whose values systemd ignores.
 ///
-/// Expressions, exceptions, monotonic timers, `Unit=` and names in `Install` with a `%` aren't checked, since systemd fills
-/// in specifiers first (systemd.unit(5), Specifiers). Values in `Unit` aren't checked at all, nor whether lines are UTF-8
-/// or too long for systemd.
+/// Monotonic timers, `Unit=` and names in `Install` with a `%` aren't checked, since systemd fills in specifiers first
+/// (systemd.unit(5), Specifiers). Expressions and exceptions with a `%` are checked only if the instance is their only
+/// specifier: it is a problem if no usual instance makes them valid. Values in `Unit` aren't checked at all, nor
+/// whether lines are UTF-8 or too long for systemd.
 ///
 /// [`crate::systemd_252`] finds no reason to reject a suggestion. Fails only if allocation fails.
 pub fn findings(alloc: Global, text: &str) -> Result<Vec<Finding>, AllocError>
@@ -142,7 +148,7 @@ pub fn findings(alloc: Global, text: &str) -> Result<Vec<Finding>, AllocError>
     ensures suggestions { IfOk result (λ found. All HasGoodSuggestion found.items) }
 {
     let faults = timer_faults(alloc, text)?;
-    let physical: Vec<&str> = without_mark(text).lines().collect(alloc)?;
+    let physical = physical_lines(alloc, without_mark(text))?;
     let mut found = Vec::new(alloc);
     let mut section = OpenSection::Outside;
     let mut number = 1;
@@ -170,15 +176,17 @@ fn timer_faults(alloc: Global, text: &str) -> Result<Vec<FileFault>, AllocError>
     find_faults(alloc, &[NumberedText { first: 1, text }])
 }
 
-/// Appends the problems of a line.
+/// Appends the problems of a line, which depend on the section that is open before it. An empty line has none.
 fn add_line(
     alloc: Global,
     found: &mut Vec<Finding>,
     faults: &[FileFault],
     line: UnitLine<'_>,
 ) -> Result<(), AllocError>
-    ensures problems { OnOk result (map shown_finding found.new.items
-        ≡ map shown_finding found.old.items ++ found_problems faults.now (placed_line line.entry)) }
+    requires { 1 + length line.physical.now < 2 ^ 32 }
+    ensures problems { OnOk result (map shown_finding found.new.items ≡ map shown_finding found.old.items
+        ++ map (problem_in line.entry.number line.entry.physical.now (value_in (line_at line.entry.number line.entry.text.now)))
+        (line_problems faults.now (placed_line line.entry))) }
     ensures suggestions { OnOk result (All HasGoodSuggestion found.old.items → All HasGoodSuggestion found.new.items) }
 {
     if line.text.is_empty() {
@@ -202,8 +210,9 @@ fn begins_with_bracket(text: &str) -> bool
 
 /// Appends the problem of a line that begins with `[`, if it has one.
 fn add_header(found: &mut Vec<Finding>, line: UnitLine<'_>) -> Result<(), AllocError>
+    requires { 1 + length line.physical.now < 2 ^ 32 }
     ensures problems { OnOk result (map shown_finding found.new.items ≡ map shown_finding found.old.items
-        ++ map (problem_at line.entry.number) (option_to_list (header_problem line.entry.text.now))) }
+        ++ map (problem_at line.entry.number (first_column line.entry.physical.now)) (option_to_list (header_problem line.entry.text.now))) }
     ensures suggestions { OnOk result (All HasGoodSuggestion found.old.items → All HasGoodSuggestion found.new.items) }
 {
     if let Some(problem) = header_problem(line.text) {
@@ -231,8 +240,9 @@ fn add_assigned(
     section: Section,
     line: UnitLine<'_>,
 ) -> Result<(), AllocError>
+    requires { 1 + length line.physical.now < 2 ^ 32 }
     ensures problems { OnOk result (map shown_finding found.new.items ≡ map shown_finding found.old.items
-        ++ map (problem_at line.entry.number)
+        ++ map (problem_in line.entry.number line.entry.physical.now (value_in (line_at line.entry.number line.entry.text.now)))
         (assigned_problems faults.now section (assignment_of (line_at line.entry.number line.entry.text.now)))) }
     ensures suggestions { OnOk result (All HasGoodSuggestion found.old.items → All HasGoodSuggestion found.new.items) }
 {
@@ -254,8 +264,9 @@ fn add_assignment(
     assignment: Assignment<'_>,
     line: &str,
 ) -> Result<(), AllocError>
+    requires { 1 + length line.now < 2 ^ 32 }
     ensures problems { OnOk result (map shown_finding found.new.items ≡ map shown_finding found.old.items
-        ++ map (problem_at assignment.entry.number) (problems_of faults.now section (shown_assignment assignment.entry))) }
+        ++ map (problem_in assignment.entry.number line.now assignment.entry.value.now) (problems_of faults.now section (shown_assignment assignment.entry))) }
     ensures suggestions { OnOk result (All HasGoodSuggestion found.old.items → All HasGoodSuggestion found.new.items) }
 {
     if is_unknown_key(section, assignment.key) {
@@ -276,8 +287,9 @@ fn add_bad_name(
     assignment: Assignment<'_>,
     line: &str,
 ) -> Result<(), AllocError>
+    requires { 1 + length line.now < 2 ^ 32 }
     ensures problems { OnOk result (map shown_finding found.new.items ≡ map shown_finding found.old.items
-        ++ map (problem_at assignment.entry.number) (if has_bad_name (shown_assignment assignment.entry) then BadUnitName ∷ [] else [])) }
+        ++ map (problem_in assignment.entry.number line.now assignment.entry.value.now) (if has_bad_name (shown_assignment assignment.entry) then BadUnitName ∷ [] else [])) }
     ensures suggestions { OnOk result (All HasGoodSuggestion found.old.items → All HasGoodSuggestion found.new.items) }
 {
     if has_bad_name(assignment) {
@@ -287,14 +299,15 @@ fn add_bad_name(
     Ok(())
 }
 
-/// Appends a problem of a line as a whole.
+/// Appends a problem of a whole line, which begins after the line's leading blanks.
 fn push_line_problem(
     found: &mut Vec<Finding>,
     line: UnitLine<'_>,
     problem: Problem,
 ) -> Result<(), AllocError>
-    ensures problems { OnOk result (map shown_finding found.new.items
-        ≡ map shown_finding found.old.items ++ problem_at line.entry.number problem ∷ []) }
+    requires { 1 + length line.physical.now < 2 ^ 32 }
+    ensures problems { OnOk result (map shown_finding found.new.items ≡ map shown_finding found.old.items
+        ++ problem_at line.entry.number (first_column line.entry.physical.now) problem ∷ []) }
     ensures suggestions { OnOk result (All HasGoodSuggestion found.old.items → All HasGoodSuggestion found.new.items) }
 {
     let column = first_column(line.physical);
@@ -309,7 +322,7 @@ pub(crate) fn finding_with(
     problem: Problem,
     suggestion: Option<String>,
 ) -> Finding
-    ensures problem { shown_finding result ≡ problem_at line problem }
+    ensures problem { shown_finding result ≡ problem_at line column problem }
     ensures suggestion { result.suggestion ≡ suggestion }
 {
     Finding {
@@ -324,16 +337,8 @@ pub(crate) fn finding_with(
 
 /// Returns a finding whose `mistake` and `suggestion` are `None`.
 pub(crate) fn plain_finding(line: u32, column: u32, problem: Problem) -> Finding
-    ensures problem { shown_finding result ≡ problem_at line problem }
+    ensures problem { shown_finding result ≡ problem_at line column problem }
     ensures suggestion { result.suggestion ≡ None }
 {
     finding_with(line, column, problem, None)
-}
-
-/// Returns the physical line with this number, counted from 1, or an empty text if there are fewer lines.
-fn physical_line<'t>(lines: &[&'t str], number: u32) -> &'t str {
-    match lines.get((number as usize).saturating_sub(1)) {
-        Some(line) => *line,
-        None => "",
-    }
 }

@@ -2,13 +2,13 @@
 //! rejects or computes wrongly, or that may not mean what their author thinks; and other settings whose values systemd
 //! ignores.
 
-ghost use Rattle.std.specs.Prelude.{◌≡◌, ◌++◌, ◌∷◌, [], All, IfOk, IfSome, OnOk, map, string_bytes};
+ghost use Rattle.std.specs.Prelude.{◌≡◌, ◌+◌, ◌<◌, ◌^◌, ◌++◌, ◌∷◌, [], All, IfOk, IfSome, OnOk, length, map, string_bytes};
 ghost use Rattle.std.specs.List.{find};
 ghost use Rattle.std.specs.Option.{option_map, option_to_list};
 ghost use Rattle.cal_timer.specs.rules.TimerView.{shown_assignment};
 ghost use Rattle.cal_lint.specs.rules.Doubts.{doubt_in};
 ghost use Rattle.cal_lint.specs.rules.Systemd252.{IsNotRejected, rejection_in};
-ghost use Rattle.cal_lint.specs.rules.Findings.{HasGoodSuggestion, advice, concerns, fault_on, flaws_of, if_valid, is_checked, is_on, problem_at, rejections_of, reported_flaw, setting_problems, shown_finding};
+ghost use Rattle.cal_lint.specs.rules.Findings.{HasGoodSuggestion, advice, concerns, fault_on, flaws_of, if_valid, instance_problems, is_checked, is_on, problem_in, rejections_of, reported_flaw, setting_problems, shown_finding, unchecked_problems};
 ghost use Rattle.cal_lint.specs.rules.IgnoredValues.{ignored_setting};
 ghost use Rattle.cal_lint.specs.rules.OpenSteps.{flaw_in};
 ghost use Rattle.cal_lint.specs.declared.problems.Problem.TheVariants.{Doubtful, IgnoredValue, Invalid, OpenStep, Rejected};
@@ -19,6 +19,7 @@ use crate::columns::{doubt_start, fault_start, value_column};
 use crate::doubts::{Doubt, find_doubt};
 use crate::hints::{Hint, Mistake, find_hint};
 use crate::ignored_values::ignored_setting;
+use crate::instances::fits_no_instance;
 use crate::older_systemd::{Rejection, systemd_252};
 use crate::open_steps::{OpenStepFlaw, find_open_step_flaw};
 use crate::problems::{Finding, Problem, ProblemKind, finding_with, plain_finding};
@@ -27,8 +28,8 @@ use cal_settings::has_percent;
 use cal_spec::{SpecFault, read_expr};
 use std::alloc::{AllocError, Global};
 
-/// Appends the problems of a setting in a section `Timer`. `faults` are all errors of the timer that has this setting, and
-/// `line` is the first physical line of the setting.
+/// Appends the problems of a setting in a section `Timer`. `faults` are all errors of the timer that has this setting,
+/// and `line` is the first physical line of the setting.
 pub(crate) fn add_setting_problems(
     alloc: Global,
     found: &mut Vec<Finding>,
@@ -36,12 +37,13 @@ pub(crate) fn add_setting_problems(
     setting: Assignment<'_>,
     line: &str,
 ) -> Result<(), AllocError>
+    requires { 1 + length line.now < 2 ^ 32 }
     ensures problems { OnOk result (map shown_finding found.new.items ≡ map shown_finding found.old.items
-        ++ map (problem_at setting.entry.number) (setting_problems faults.now (shown_assignment setting.entry))) }
+        ++ map (problem_in setting.entry.number line.now setting.entry.value.now) (setting_problems faults.now (shown_assignment setting.entry))) }
     ensures suggestions { OnOk result (All HasGoodSuggestion found.old.items → All HasGoodSuggestion found.new.items) }
 {
     if !is_checked(setting) {
-        return add_ignored_value(found, setting, line);
+        return add_unchecked(alloc, found, setting, line);
     }
     match fault_on(faults, setting.number) {
         Some(fault) => add_invalid(alloc, found, setting, line, fault),
@@ -49,15 +51,55 @@ pub(crate) fn add_setting_problems(
     }
 }
 
-/// Appends the problem of an assignment that is neither an expression nor an exception, if systemd ignores it because of
-/// its value.
+/// Appends the problem of an expression or exception with specifiers if no usual instance makes it valid, or of another
+/// setting if systemd ignores it because of its value.
+fn add_unchecked(
+    alloc: Global,
+    found: &mut Vec<Finding>,
+    setting: Assignment<'_>,
+    line: &str,
+) -> Result<(), AllocError>
+    requires { 1 + length line.now < 2 ^ 32 }
+    ensures problems { OnOk result (map shown_finding found.new.items ≡ map shown_finding found.old.items
+        ++ map (problem_in setting.entry.number line.now setting.entry.value.now) (unchecked_problems (shown_assignment setting.entry))) }
+    ensures suggestions { OnOk result (All HasGoodSuggestion found.old.items → All HasGoodSuggestion found.new.items) }
+{
+    if setting.is_expression() || setting.is_exception() {
+        add_unfit(alloc, found, setting, line)
+    } else {
+        add_ignored_value(found, setting, line)
+    }
+}
+
+/// Appends the problem of an expression or exception with specifiers, if no usual instance makes it valid.
+fn add_unfit(
+    alloc: Global,
+    found: &mut Vec<Finding>,
+    setting: Assignment<'_>,
+    line: &str,
+) -> Result<(), AllocError>
+    requires { 1 + length line.now < 2 ^ 32 }
+    ensures problems { OnOk result (map shown_finding found.new.items ≡ map shown_finding found.old.items
+        ++ map (problem_in setting.entry.number line.now setting.entry.value.now) (instance_problems (shown_assignment setting.entry))) }
+    ensures suggestions { OnOk result (All HasGoodSuggestion found.old.items → All HasGoodSuggestion found.new.items) }
+{
+    if fits_no_instance(alloc, setting.value)? {
+        let column = value_column(line, setting.value, 0);
+        found.push(plain_finding(setting.number, column, Problem::NoInstanceFits))?;
+    }
+    Ok(())
+}
+
+/// Appends the problem of an assignment that is neither an expression nor an exception, if systemd ignores it because
+/// of its value.
 fn add_ignored_value(
     found: &mut Vec<Finding>,
     assignment: Assignment<'_>,
     line: &str,
 ) -> Result<(), AllocError>
+    requires { 1 + length line.now < 2 ^ 32 }
     ensures problems { OnOk result (map shown_finding found.new.items ≡ map shown_finding found.old.items
-        ++ map (problem_at assignment.entry.number) (option_to_list (option_map IgnoredValue (ignored_setting (shown_assignment assignment.entry))))) }
+        ++ map (problem_in assignment.entry.number line.now assignment.entry.value.now) (option_to_list (option_map IgnoredValue (ignored_setting (shown_assignment assignment.entry))))) }
     ensures suggestions { OnOk result (All HasGoodSuggestion found.old.items → All HasGoodSuggestion found.new.items) }
 {
     if let Some(kind) = ignored_setting(assignment) {
@@ -67,7 +109,8 @@ fn add_ignored_value(
     Ok(())
 }
 
-/// Appends the error of an expression or exception.
+/// Appends the error `fault` of an expression or exception, with the mistake that the value resembles and what to write
+/// instead, if these are known.
 fn add_invalid(
     alloc: Global,
     found: &mut Vec<Finding>,
@@ -75,8 +118,9 @@ fn add_invalid(
     line: &str,
     fault: TimerFault,
 ) -> Result<(), AllocError>
-    ensures problems { OnOk result (map shown_finding found.new.items
-        ≡ map shown_finding found.old.items ++ problem_at assignment.entry.number (Invalid fault) ∷ []) }
+    requires { 1 + length line.now < 2 ^ 32 }
+    ensures problems { OnOk result (map shown_finding found.new.items ≡ map shown_finding found.old.items
+        ++ problem_in assignment.entry.number line.now assignment.entry.value.now (Invalid fault) ∷ []) }
     ensures suggestions { OnOk result (All HasGoodSuggestion found.old.items → All HasGoodSuggestion found.new.items) }
 {
     let value = assignment.value;
@@ -93,49 +137,46 @@ fn add_invalid(
     Ok(())
 }
 
-/// If the assignment's value is a valid expression, appends the reason why systemd 252 rejects it, unless it is an
-/// exception, and the doubt about its meaning, each only if there is one.
+/// If the value of `assignment` is a valid expression, appends why systemd 252 rejects it, what systemd 252 computes
+/// wrongly, and the doubt about its meaning, each only if there is one. For an exception, appends only the doubt.
 fn add_advice(
     alloc: Global,
     found: &mut Vec<Finding>,
     assignment: Assignment<'_>,
     line: &str,
 ) -> Result<(), AllocError>
+    requires { 1 + length line.now < 2 ^ 32 }
     ensures problems { OnOk result (map shown_finding found.new.items ≡ map shown_finding found.old.items
-        ++ map (problem_at assignment.entry.number) (advice (shown_assignment assignment.entry))) }
+        ++ map (problem_in assignment.entry.number line.now assignment.entry.value.now) (advice (shown_assignment assignment.entry))) }
     ensures suggestions { OnOk result (All HasGoodSuggestion found.old.items → All HasGoodSuggestion found.new.items) }
 {
-    let value = assignment.value;
-    let column = value_column(line, value, 0);
     let rejected = rejection_by_systemd(alloc, assignment)?;
-    push_rejection(alloc, found, assignment.number, column, rejected, value)?;
+    push_rejection(alloc, found, assignment, line, rejected)?;
     add_concerns(alloc, found, assignment, line)
 }
 
-/// If the assignment's value is a valid expression, appends what systemd 252 computes wrongly, unless it is an exception,
-/// and the doubt about its meaning, each only if there is one.
+/// If the value of `assignment` is a valid expression, appends what systemd 252 computes wrongly, and the doubt about
+/// its meaning, each only if there is one. For an exception, appends only the doubt.
 fn add_concerns(
     alloc: Global,
     found: &mut Vec<Finding>,
     assignment: Assignment<'_>,
     line: &str,
 ) -> Result<(), AllocError>
+    requires { 1 + length line.now < 2 ^ 32 }
     ensures problems { OnOk result (map shown_finding found.new.items ≡ map shown_finding found.old.items
-        ++ map (problem_at assignment.entry.number) (concerns (shown_assignment assignment.entry))) }
+        ++ map (problem_in assignment.entry.number line.now assignment.entry.value.now) (concerns (shown_assignment assignment.entry))) }
     ensures suggestions { OnOk result (All HasGoodSuggestion found.old.items → All HasGoodSuggestion found.new.items) }
 {
-    let value = assignment.value;
-    let column = value_column(line, value, 0);
     let flaw = flaw_by_systemd(alloc, assignment)?;
-    let doubt = doubt_of(alloc, value)?;
-    push_flaw(alloc, found, assignment.number, column, flaw, value)?;
-    let column = value_column(line, value, doubt_start(doubt, value));
-    push_doubt(found, assignment.number, column, doubt)
+    let doubt = doubt_of(alloc, assignment.value)?;
+    push_flaw(alloc, found, assignment, line, flaw)?;
+    push_doubt(found, assignment, line, doubt)
 }
 
-/// Returns what systemd 252 computes wrongly in a valid expression, except for failures when the clock is set forward at
-/// midnight, as it is in few zones. Returns `None` if the value is not a valid expression, and for an exception: systemd
-/// doesn't read exceptions.
+/// Returns what systemd 252 computes wrongly in a valid expression, except for failures when the clock is set forward
+/// at midnight, which `cal_tasks` reports for the zones that do so. Returns `None` if the value is not a valid
+/// expression, and for an exception: systemd doesn't read exceptions.
 fn flaw_by_systemd(
     alloc: Global,
     assignment: Assignment<'_>,
@@ -160,8 +201,8 @@ fn flaw_of(alloc: Global, value: &str) -> Result<Option<OpenStepFlaw>, AllocErro
     }
 }
 
-/// Returns the flaw to report. Returns `None` for [`OpenStepFlaw::FailsAtMidnightChanges`], since few zones set the clock
-/// forward at midnight.
+/// Returns the flaw to report whatever the zone. Returns `None` for [`OpenStepFlaw::FailsAtMidnightChanges`], which
+/// matters only where the clock is set forward at midnight; `cal_tasks` reports it for those zones.
 pub fn reported_flaw(flaw: Option<OpenStepFlaw>) -> Option<OpenStepFlaw>
     ensures { result ≡ reported_flaw flaw }
 {
@@ -196,19 +237,20 @@ fn rejection_by_systemd(
 fn push_rejection(
     alloc: Global,
     found: &mut Vec<Finding>,
-    line: u32,
-    column: u32,
+    assignment: Assignment<'_>,
+    line: &str,
     rejected: Option<Rejection>,
-    value: &str,
 ) -> Result<(), AllocError>
-    ensures problems { OnOk result (map shown_finding found.new.items
-        ≡ map shown_finding found.old.items ++ map (problem_at line) (option_to_list (option_map Rejected rejected))) }
+    requires { 1 + length line.now < 2 ^ 32 }
+    ensures problems { OnOk result (map shown_finding found.new.items ≡ map shown_finding found.old.items
+        ++ map (problem_in assignment.entry.number line.now assignment.entry.value.now) (option_to_list (option_map Rejected rejected))) }
     ensures suggestions { OnOk result (All HasGoodSuggestion found.old.items → All HasGoodSuggestion found.new.items) }
 {
     if let Some(rejection) = rejected {
-        let suggestion = accepted_form(alloc, value)?;
+        let column = value_column(line, assignment.value, 0);
+        let suggestion = accepted_form(alloc, assignment.value)?;
         let problem = Problem::Rejected(rejection);
-        found.push(finding_with(line, column, problem, suggestion))?;
+        found.push(finding_with(assignment.number, column, problem, suggestion))?;
     }
     Ok(())
 }
@@ -217,18 +259,20 @@ fn push_rejection(
 fn push_flaw(
     alloc: Global,
     found: &mut Vec<Finding>,
-    line: u32,
-    column: u32,
+    assignment: Assignment<'_>,
+    line: &str,
     flaw: Option<OpenStepFlaw>,
-    value: &str,
 ) -> Result<(), AllocError>
-    ensures problems { OnOk result (map shown_finding found.new.items
-        ≡ map shown_finding found.old.items ++ map (problem_at line) (option_to_list (option_map OpenStep flaw))) }
+    requires { 1 + length line.now < 2 ^ 32 }
+    ensures problems { OnOk result (map shown_finding found.new.items ≡ map shown_finding found.old.items
+        ++ map (problem_in assignment.entry.number line.now assignment.entry.value.now) (option_to_list (option_map OpenStep flaw))) }
     ensures suggestions { OnOk result (All HasGoodSuggestion found.old.items → All HasGoodSuggestion found.new.items) }
 {
     if let Some(flaw) = flaw {
-        let suggestion = closed_suggestion(alloc, value)?;
-        found.push(finding_with(line, column, Problem::OpenStep(flaw), suggestion))?;
+        let column = value_column(line, assignment.value, 0);
+        let suggestion = closed_suggestion(alloc, assignment.value)?;
+        let problem = Problem::OpenStep(flaw);
+        found.push(finding_with(assignment.number, column, problem, suggestion))?;
     }
     Ok(())
 }
@@ -251,16 +295,19 @@ fn closed_suggestion(alloc: Global, value: &str) -> Result<Option<String>, Alloc
 /// Appends the doubt about a valid expression, if there is one.
 fn push_doubt(
     found: &mut Vec<Finding>,
-    line: u32,
-    column: u32,
+    assignment: Assignment<'_>,
+    line: &str,
     doubt: Option<Doubt>,
 ) -> Result<(), AllocError>
-    ensures problems { OnOk result (map shown_finding found.new.items
-        ≡ map shown_finding found.old.items ++ map (problem_at line) (option_to_list (option_map Doubtful doubt))) }
+    requires { 1 + length line.now < 2 ^ 32 }
+    ensures problems { OnOk result (map shown_finding found.new.items ≡ map shown_finding found.old.items
+        ++ map (problem_in assignment.entry.number line.now assignment.entry.value.now) (option_to_list (option_map Doubtful doubt))) }
     ensures suggestions { OnOk result (All HasGoodSuggestion found.old.items → All HasGoodSuggestion found.new.items) }
 {
     if let Some(doubt) = doubt {
-        found.push(plain_finding(line, column, Problem::Doubtful(doubt)))?;
+        let value = assignment.value;
+        let column = value_column(line, value, doubt_start(doubt, value));
+        found.push(plain_finding(assignment.number, column, Problem::Doubtful(doubt)))?;
     }
     Ok(())
 }

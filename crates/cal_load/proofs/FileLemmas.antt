@@ -27,6 +27,7 @@ use Rattle.cal_unit_index.specs.rules.Folders.{end_at}
 use Rattle.cal_unit_index.specs.rules.Index.{Fault, faults_of_listing, shown_fault}
 use Rattle.cal_unit_index.specs.rules.Names.{names_on}
 use Rattle.cal_unit_index.specs.declared.files.UnitText as texts
+use Rattle.cal_unit_index.specs.declared.unit_type.UnitType.TheVariants.{Timer}
 use Rattle.cal_unit_index.specs.rules.Files.{FileRead, UnitText, drop_in_fault, file_at, lost_for, shown_unit_text, text_at, texts_at}
 use Rattle.cal_unit_index.specs.rules.Files.FileRead.{Mask, Unusable, Text}
 use Rattle.cal_unit_index.specs.rules.UnitName.{unit_stem}
@@ -53,7 +54,8 @@ has_as_before : (paths : List (List ℕ)) (path other : List ℕ) → bytes_eq o
     → list_any (bytes_eq other) paths ≡ list_any (bytes_eq other) (paths ++ path ∷ [])
 has_as_before paths path other e = sym (list_any-append (bytes_eq other) paths (path ∷ []) ∙ rw e (grind arith))
 
--- after what was found at a path is entered, this is remembered of the path, and the same as before of all other paths
+-- if a map has what is at each of `paths`, it has what is at each of `paths` and at `path` after what was found at
+-- `path` is inserted
 seen_more : (machine : Machine) (paths : List (List ℕ)) (path : List ℕ) (found : FileRead) (old new : BTreeMap (String Global) Taken)
     → found ≡ file_at machine path → get_by_text new path ≡ Some (taken_of found)
     → ((other : List ℕ) → ((other ≡ path) × (get_by_text new other ≡ Some (taken_of found))) ⊎ (get_by_text new other ≡ get_by_text old other))
@@ -71,7 +73,7 @@ seen_more machine paths path found old new is at changed h other =
       ]
     ]
 
--- one more path was tried
+-- after one more path was tried, the paths are the earlier ones and this one
 tried_more : (machine : Machine) (paths : List (List ℕ)) (path : List ℕ) (found : FileRead) (old new : Reading)
     → found ≡ file_at machine path → get_by_text new.seen path ≡ Some (taken_of found)
     → ((other : List ℕ) → ((other ≡ path) × (get_by_text new.seen other ≡ Some (taken_of found))) ⊎ (get_by_text new.seen other ≡ get_by_text old.seen other))
@@ -85,7 +87,8 @@ tried_more machine paths path found old new is at changed pushed h = record {
   seen = seen_more machine paths path found old.seen new.seen is at changed h.seen;
 }
 
--- one more path was tried, and what was found there was entered under a string with the bytes of the path
+-- after one more path was tried, and what was found there was inserted under a string with the bytes of the path, the
+-- tried paths are the earlier ones and this one
 pub tried_at : (machine : Machine) (paths : List (List ℕ)) (path : List ℕ) (found : FileRead) (old new : Reading) (key : String Global) (taken : Taken)
     → string_bytes key ≡ path → taken ≡ taken_of found
     → Updates (λ x y. slice_cmp nat_cmp (string_bytes x) (string_bytes y)) old.seen new.seen key (Some taken) → found ≡ file_at machine path
@@ -122,17 +125,17 @@ stored_files machine (file ∷ files) h =
     (All-head (IsStored machine) (shown_unit_text file) (map shown_unit_text files) h)
     (stored_files machine files (All-tail (IsStored machine) (shown_unit_text file) (map shown_unit_text files) h))
 
--- the texts that were read are stored
+-- each text that was read is what the machine has at its path
 pub tried_stored : (machine : Machine) (reading : Reading) → HasTried machine reading → All (IsStoredOn machine) reading.loaded.files.items
 tried_stored machine reading h = stored_files machine reading.loaded.files.items (subst (All (IsStored machine)) (sym h.1.files) (texts_stored machine h.0))
 
 -- ## Each path once
 
--- the paths that `known` hasn't
+-- the paths that `known` doesn't have
 abbrev new_to : List (List ℕ) → List (List ℕ) → List (List ℕ)
 new_to known paths = filter (λ other. not (list_any (bytes_eq other) known)) paths
 
--- a filter after a filter
+-- filtering twice is filtering once by both tests
 filter_both : {X : Type 0} (p q r : X → Bool) → ((x : X) → r x ≡ (q x && p x)) → (xs : List X) → filter p (filter q xs) ≡ filter r xs
 filter_both p q r is [] = refl
 filter_both p q r is (x ∷ xs) =
@@ -142,7 +145,7 @@ filter_both p q r is (x ∷ xs) =
       | inr e ↦ rw (is x, e) rest
     ]
 
--- a path that is known isn't new, nor is it after it was added
+-- if `path` is known, the paths that aren't known are those that differ from `path` and aren't known
 new_known : (known : List (List ℕ)) (path : List ℕ) → list_any (bytes_eq path) known ≡ true → (other : List ℕ)
     → not (list_any (bytes_eq other) known) ≡ (not (bytes_eq other path) && not (list_any (bytes_eq other) known))
 new_known known path has other =
@@ -160,7 +163,7 @@ new_added known path other =
       | inr differs ↦ rw differs (grind arith)
     ]
 
--- paths that are added one by one are those that weren't known, each once
+-- adding paths one by one appends those that weren't known, each once
 added_once : (known paths : List (List ℕ)) → fold with_path known paths ≡ known ++ new_to known (each_once paths)
 added_once known [] = sym (append-nil known)
 added_once known (path ∷ paths) =
@@ -180,13 +183,13 @@ filter_all : {X : Type 0} (xs : List X) → filter (λ x. true) xs ≡ xs
 filter_all [] = refl
 filter_all (x ∷ xs) = ap (λ xs. x ∷ xs) (filter_all xs)
 
--- if no path was known, these are the paths, each once
+-- adding paths one by one to an empty list makes a list of these paths, each once
 once : (paths : List (List ℕ)) → fold with_path [] paths ≡ each_once paths
 once paths = added_once [] paths ∙ filter_all (each_once paths)
 
 -- ## Several paths
 
--- what is said of a reading stays so if only its errors change
+-- if only the errors of a reading change, the same paths were tried
 tried_same : (machine : Machine) (paths : List (List ℕ)) (old new : Reading) → new.seen ≡ old.seen → new.loaded.files.items ≡ old.loaded.files.items
     → AreTried machine paths old → AreTried machine paths new
 tried_same machine paths old new seen files h = record {
@@ -194,12 +197,12 @@ tried_same machine paths old new seen files h = record {
   seen = λ path. ap (λ map. get_by_text map path) seen ∙ h.seen path;
 }
 
--- nothing was tried, and these errors were added
+-- if nothing was tried and only errors were added, `AreReadAlso` holds for no paths and these errors
 read_errors : (machine : Machine) (lost : List Lost) (old new : Reading) → new.seen ≡ old.seen → new.loaded.files.items ≡ old.loaded.files.items
     → AreLostAlso lost old.loaded.faults.items new.loaded.faults.items → AreReadAlso machine [] lost old new
 read_errors machine lost old new seen files h paths tried = (tried_same machine paths old new seen files tried, h)
 
--- the paths of `first`, and then those of `second`
+-- if `AreReadAlso` holds for the paths `first`, and then for the paths `second`, it holds for all of them
 read_both : (machine : Machine) (first second : List (List ℕ)) (lost also : List Lost) (old mid new : Reading)
     → AreReadAlso machine first lost old mid → AreReadAlso machine second also mid new → AreReadAlso machine (first ++ second) (lost ++ also) old new
 read_both machine first second lost also old mid new h k paths tried =
@@ -214,7 +217,8 @@ pub read_as : (machine : Machine) (first second : List (List ℕ)) (lost also : 
 read_as machine first second lost also old new e f h =
     subst (λ paths. AreReadAlso machine paths also old new) e (subst (λ lost. AreReadAlso machine first lost old new) f h)
 
--- what one more text stands for
+-- if `AreReadAlso` holds for the texts in `before`, and then for the text `more`, it holds for all of them; `f`
+-- returns the paths that a text stands for, and `g` what is lost of them
 read_flat : (machine : Machine) (f : List ℕ → List (List ℕ)) (g : List ℕ → List Lost) (before : List (List ℕ)) (more : List ℕ) (old mid new : Reading)
     → AreReadAlso machine (flat_map f before) (flat_map g before) old mid → AreReadAlso machine (f more) (g more) mid new
     → AreReadAlso machine (flat_map f (before ++ more ∷ [])) (flat_map g (before ++ more ∷ [])) old new
@@ -223,7 +227,7 @@ read_flat machine f g before more old mid new h k =
     (flat_map_more f [] before more) (flat_map_more g [] before more)
     (read_both machine (flat_map f before) (f more) (flat_map g before) (g more) old mid new h k)
 
--- one more path
+-- if `AreReadAlso` holds for the paths in `before`, and then for the path `more`, it holds for all of them
 read_path : (machine : Machine) (g : List ℕ → List Lost) (before : List (List ℕ)) (more : List ℕ) (old mid new : Reading)
     → AreReadAlso machine before (flat_map g before) old mid → AreReadAlso machine (more ∷ []) (g more) mid new
     → AreReadAlso machine (before ++ more ∷ []) (flat_map g (before ++ more ∷ [])) old new
@@ -232,7 +236,7 @@ read_path machine g before more old mid new h k =
     refl (flat_map_more g [] before more)
     (read_both machine before (more ∷ []) (flat_map g before) (g more) old mid new h k)
 
--- the path in one more string
+-- if `AreReadAlso` holds for the strings in `before`, and then for the string `more`, it holds for all these paths
 pub read_drop_in : (machine : Machine) (g : List ℕ → List Lost) (before : List (String Global)) (more : String Global) (old mid new : Reading)
     → AreReadAlso machine (map string_bytes before) (flat_map g (map string_bytes before)) old mid
     → AreReadAlso machine (string_bytes more ∷ []) (g (string_bytes more)) mid new
@@ -244,7 +248,8 @@ read_drop_in machine g before more old mid new h k =
     all (ap (flat_map g) all)
     (read_path machine g (map string_bytes before) (string_bytes more) old mid new h k)
 
--- the path that `f` makes of one more string
+-- if `AreReadAlso` holds for the paths that `f` makes of the strings in `before`, and then for the one that it makes
+-- of `more`, it holds for all of them
 pub read_string : (machine : Machine) (f : List ℕ → List ℕ) (g : List ℕ → List Lost) (before : List (String Global)) (more : String Global) (path : List ℕ) (old mid new : Reading)
     → path ≡ f (string_bytes more)
     → AreReadAlso machine (map f (map string_bytes before)) (flat_map g (map f (map string_bytes before))) old mid → AreReadAlso machine (path ∷ []) (g path) mid new
@@ -259,7 +264,8 @@ read_string machine f g before more path old mid new is h k =
     all (ap (flat_map g) all)
     (read_path machine g (map f (map string_bytes before)) path old mid new h k)
 
--- one more unit of the search path
+-- if `AreReadAlso` holds for the units in `before`, and then for the unit `more`, it holds for all of them; `f`
+-- returns the paths of a unit, and `g` what is lost of them
 pub read_unit : (machine : Machine) (f : List ℕ → List (List ℕ)) (g : List ℕ → List Lost) (before : List (String Global)) (more : String Global) (name : List ℕ) (old mid new : Reading)
     → name ≡ string_bytes more → AreReadAlso machine (flat_map f (map string_bytes before)) (flat_map g (map string_bytes before)) old mid
     → AreReadAlso machine (f name) (g name) mid new
@@ -272,7 +278,8 @@ read_unit machine f g before more name old mid new is h k =
     (read_flat machine f g (map string_bytes before) (string_bytes more) old mid new h
     (read_as machine (f name) (f (string_bytes more)) (g name) (g (string_bytes more)) mid new (ap f is) (ap g is) k))
 
--- one more target
+-- if `AreReadAlso` holds for the first `i` targets, and then for the next one, it holds for the first `i + 1`; `f`
+-- returns the paths of a target, and `g` what is lost of them
 pub read_target : (machine : Machine) (f : List ℕ → List (List ℕ)) (g : List ℕ → List Lost) (targets : List (Bor (List ℕ))) (i : ℕ) (target other : Bor (List ℕ)) (old mid new : Reading)
     → i < length targets → target.now ≡ (get_or targets i other).now
     → AreReadAlso machine (flat_map f (map (λ target. target.now) (take i targets))) (flat_map g (map (λ target. target.now) (take i targets))) old mid
@@ -289,7 +296,7 @@ read_target machine f g targets i target other old mid new within is h k =
     (ap (flat_map f) all) (ap (flat_map g) all)
     (read_flat machine f g before target.now old mid new h k)
 
--- what was lost besides was added to the errors afterwards
+-- errors about something else that is lost can be added after the paths were tried
 pub read_besides : (machine : Machine) (tried : List (List ℕ)) (lost more : List Lost) (old mid new : Reading)
     → new.seen ≡ mid.seen → new.loaded.files ≡ mid.loaded.files
     → AreReadAlso machine tried lost old mid → AreLostAlso more mid.loaded.faults.items new.loaded.faults.items
@@ -324,7 +331,7 @@ text_read Mask = refl
 text_read (Unusable reason) = refl
 text_read (Text bytes) = refl
 
--- why what was tried is lost
+-- why the file at a path is lost, if it is, given what was found there
 abbrev cause_taken : List ℕ → Taken → Option Cause
 cause_taken path taken.TheVariants.Read = None
 cause_taken path taken.TheVariants.Masked = None
@@ -335,7 +342,7 @@ cause_same path Mask = refl
 cause_same path (Unusable reason) = refl
 cause_same path (Text bytes) = refl
 
--- what is lost of a drop-in that was tried
+-- what is lost of a drop-in, given what was found there
 abbrev drop_in_taken : List ℕ → Taken → List Lost
 drop_in_taken path taken.TheVariants.Read = []
 drop_in_taken path taken.TheVariants.Masked = []
@@ -348,7 +355,7 @@ drop_in_same path Mask = refl
 drop_in_same path (Unusable reason) = refl
 drop_in_same path (Text bytes) = refl
 
--- a path was tried, and then what is lost of it was reported
+-- if a path was tried, and then what is lost of it was reported, `AreReadAlso` holds for this path
 read_one : (machine : Machine) (path : List ℕ) (taken : Taken) (f : Taken → List Lost) (lost : List Lost) (old mid new : Reading)
     → IsTaken machine path taken old mid → f (taken_of (file_at machine path)) ≡ lost → mid.loaded.faults.items ≡ old.loaded.faults.items
     → new.seen ≡ mid.seen → new.loaded.files.items ≡ mid.loaded.files.items
@@ -378,7 +385,7 @@ drop_in_read machine path taken old mid new h same seen files k =
     read_one machine path taken (drop_in_taken path) (lost_drop_in machine path) old mid new h
     (drop_in_same path (file_at machine path)) same seen files k
 
--- a drop-in that can't be used for a reason that is reported
+-- if a drop-in can't be used for a reason that is reported, and was reported, `AreReadAlso` holds for it
 pub lost_read : (machine : Machine) (path : String Global) (place : List ℕ) (reason : Reason) (tried : Taken) (old mid new : Reading)
     → place ≡ string_bytes path → tried ≡ taken.TheVariants.Unusable reason → IsTaken machine place tried old mid
     → mid.loaded.faults.items ≡ old.loaded.faults.items → new.seen ≡ mid.seen → new.loaded.files.items ≡ mid.loaded.files.items
@@ -394,7 +401,7 @@ lost_read machine path place reason tried old mid new named is h same seen files
 
 -- ## Units
 
--- the file of a unit was tried, and then its drop-ins if the file is a text
+-- if the file of a unit was tried, and then its drop-ins if the file is a text, `AreReadFor` holds
 unit_read : (machine : Machine) (path : List ℕ) (taken : Taken) (drop_ins : List (List ℕ)) (lost : List Lost) (reason : Option TargetReason) (old mid new : Reading)
     → IsTaken machine path taken old mid → mid.loaded.faults.items ≡ old.loaded.faults.items
     → AreReadAlso machine (if is_read taken then drop_ins else []) (if is_read taken then lost else []) mid new
@@ -411,7 +418,7 @@ unit_read machine path taken drop_ins lost reason old mid new h same k because p
       subst (λ cause. IsCauseIf cause reason) (ap (cause_taken path) was.1 ∙ cause_same path (file_at machine path)) because,
     )
 
--- nothing more was tried, since the file of a unit can't be used
+-- if the file of a unit can't be used, and so nothing more was tried, `AreReadFor` holds
 pub unusable_read : (machine : Machine) (path : List (List ℕ)) (asked file own_file own : List ℕ) (reason : Reason) (found : TargetReason) (unit : Unit) (old new : Reading)
     → IsTaken machine file (taken.TheVariants.Unusable reason) old new → new.loaded.faults.items ≡ old.loaded.faults.items
     → IsCause (cause_of file reason) found → FoundAt file own_file own ≡ unit
@@ -419,10 +426,10 @@ pub unusable_read : (machine : Machine) (path : List (List ℕ)) (asked file own
 unusable_read machine path asked file own_file own reason found unit old new h same because is =
     let names = names_on machine path own_file own asked in
     subst (λ unit. AreReadFor machine (paths_of_unit machine path asked unit) (lost_of_unit machine path asked unit) (cause_of_unit machine unit) (Some found) old new) is
-    (unit_read machine file (taken.TheVariants.Unusable reason) (drop_ins machine path names) (lost_drop_ins machine path names) (Some found) old new new h same
+    (unit_read machine file (taken.TheVariants.Unusable reason) (drop_ins machine path Timer names) (lost_drop_ins machine path names) (Some found) old new new h same
     (λ paths tried. (tried, lost_none new.loaded.faults.items)) because)
 
--- after a unit was read, it was reported why it is lost, if it is
+-- if a unit was read, and then the reason why it is lost was reported, if there is one, `AreReadAlso` holds
 pub reported_read : (machine : Machine) (more : List (List ℕ)) (lost : List Lost) (cause : Option Cause) (reason given : Option TargetReason) (also : List Lost) (old mid new : Reading)
     → AreReadFor machine more lost cause reason old mid → reason ≡ given → new.seen ≡ mid.seen → new.loaded.files.items ≡ mid.loaded.files.items
     → (IsCauseIf cause given → AreLostAlso also mid.loaded.faults.items new.loaded.faults.items)
@@ -433,7 +440,7 @@ reported_read machine more lost cause reason given also old mid new h e seen fil
       lost_both lost also old.loaded.faults.items mid.loaded.faults.items new.loaded.faults.items was.1 (k (subst (IsCauseIf cause) e was.2)),
     )
 
--- the name isn't valid
+-- if a name isn't valid, nothing was tried, and this was reported, then `AreReadAlso` holds for the name
 pub invalid_read : (machine : Machine) (path : List (List ℕ)) (name : List ℕ) (stem : Option (List ℕ)) (old new : Reading) → None ≡ stem
     → new.seen ≡ old.seen → new.loaded.files.items ≡ old.loaded.files.items
     → AreLostAlso (lost_as name (Some Absent)) old.loaded.faults.items new.loaded.faults.items
@@ -442,7 +449,7 @@ invalid_read machine path name stem old new e seen files h =
     subst (λ stem. AreReadAlso machine (paths_if_valid machine path stem) (lost_if_valid machine path stem ++ lost_as name (cause_if_valid machine path stem)) old new) e
     (read_errors machine (lost_as name (Some Absent)) old new seen files h)
 
--- the unit with a valid name is lost, and this was reported
+-- if the unit with a valid name is lost, and this was reported, then `AreReadAlso` holds for the name
 pub valid_read : (machine : Machine) (path : List (List ℕ)) (name asked : List ℕ) (stem : Option (List ℕ)) (found : Option TargetReason) (reason : TargetReason) (old mid new : Reading)
     → Some asked ≡ stem
     → AreReadFor machine (unit_paths machine path asked) (lost_of_unit machine path asked (unit_on machine path asked)) (cause_of_unit machine (unit_on machine path asked)) found old mid
@@ -455,24 +462,26 @@ valid_read machine path name asked stem found reason old mid new e h is seen fil
     (reported_read machine (unit_paths machine path asked) (lost_of_unit machine path asked (unit_on machine path asked)) cause found (Some reason) (lost_as name cause) old mid new
     h is seen files (one_named name cause reason mid.loaded.faults.items new.loaded.faults.items k))
 
--- the drop-ins of a unit were tried, after the folders that can't be read were reported
+-- if the drop-in folders that can't be read were reported, and then the drop-ins of a unit were tried, `AreReadAlso`
+-- holds for the drop-ins
 pub drop_ins_read : (machine : Machine) (path names : List (List ℕ)) (paths : List (String Global)) (unread : List UnitFault) (old mid new : Reading)
-    → map string_bytes paths ≡ drop_ins machine path names → map shown_fault unread ≡ unread_folders machine path names
+    → map string_bytes paths ≡ drop_ins machine path Timer names → map shown_fault unread ≡ unread_folders machine path Timer names
     → mid.seen ≡ old.seen → mid.loaded.files.items ≡ old.loaded.files.items
     → AreLostAlso (map lost_path (map shown_fault unread)) old.loaded.faults.items mid.loaded.faults.items
     → AreReadAlso machine (map string_bytes paths) (flat_map (lost_drop_in machine) (map string_bytes paths)) mid new
-    → AreReadAlso machine (drop_ins machine path names) (lost_drop_ins machine path names) old new
+    → AreReadAlso machine (drop_ins machine path Timer names) (lost_drop_ins machine path names) old new
 drop_ins_read machine path names paths unread old mid new are unread_are seen files h k =
     let folders = map lost_path (map shown_fault unread) in
     let files_lost = flat_map (lost_drop_in machine) (map string_bytes paths) in
-    read_as machine (map string_bytes paths) (drop_ins machine path names) (folders ++ files_lost) (lost_drop_ins machine path names) old new are
+    read_as machine (map string_bytes paths) (drop_ins machine path Timer names) (folders ++ files_lost) (lost_drop_ins machine path names) old new are
     (ap (λ faults. map lost_path faults ++ files_lost) unread_are
-    ∙ ap (λ paths. map lost_path (unread_folders machine path names) ++ flat_map (lost_drop_in machine) paths) are)
+    ∙ ap (λ paths. map lost_path (unread_folders machine path Timer names) ++ flat_map (lost_drop_in machine) paths) are)
     (read_both machine [] (map string_bytes paths) folders files_lost old mid new (read_errors machine folders old mid seen files h) k)
 
 -- ## Folders
 
--- the names in a folder can't be read
+-- if the names in a folder can't be read, nothing was tried, and this was reported, then `AreReadAlso` holds for its
+-- texts
 pub unread_read : (machine : Machine) (folder : List ℕ) (names : Result Listing Unreadable) (reason : TargetReason) (old new : Reading)
     → new.seen ≡ old.seen → new.loaded.files.items ≡ old.loaded.files.items → IsUnreadReason folder names reason
     → ((cause : Cause) → IsCause cause reason → AreLostAlso (lost_as folder (Some cause)) old.loaded.faults.items new.loaded.faults.items)
@@ -488,7 +497,7 @@ names_known : (folder : List ℕ) (names : Result Listing Unreadable) (keys : Li
 names_known folder (Ok names) keys e = refl
 names_known folder (Err why) keys e = absurd (cc)
 
--- the files with these names in a folder were tried
+-- if the files with the names `keys` in a folder were tried, `AreReadAlso` holds for the folder's texts
 pub texts_read : (machine : Machine) (folder : List ℕ) (keys : List (List ℕ)) (old new : Reading) → text_names_at machine folder ≡ Ok keys
     → AreReadAlso machine (map (path_in folder) keys) (flat_map (lost_file machine) (map (path_in folder) keys)) old new
     → AreReadAlso machine (paths_in folder (text_names_at machine folder)) (lost_texts machine folder) old new
@@ -500,7 +509,8 @@ texts_read machine folder keys old new e h =
     ∙ ap (λ names. flat_map (lost_file machine) (paths_in folder names)) e))
     h
 
--- the texts in a folder were tried, and then its units, and what of these can't be read was reported
+-- if the texts in a folder were tried, and then its units, and then what can't be read of it was reported,
+-- `AreReadAlso` holds for the folder
 pub folder_read : (machine : Machine) (folder : List ℕ) (stems : List (List ℕ)) (unread : List Fault) (old mid last new : Reading)
     → stems ≡ units_in_folder machine folder → unread ≡ unread_in_folder machine folder
     → new.seen ≡ last.seen → new.loaded.files ≡ last.loaded.files

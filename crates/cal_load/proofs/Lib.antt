@@ -12,6 +12,8 @@ pub mod PositionLemmas
 pub mod ReadableLemmas
 mod ReadableRows
 pub mod ResolvedLemmas
+pub mod ServiceLemmas
+mod ServiceRows
 pub mod SpecifierLemmas
 mod SpecifierRows
 pub mod TextFaultLemmas

@@ -2,8 +2,8 @@
 use Rattle.std.proofs.Common.{◌≡◌, ◌≤◌, ◌<◌, ◌+◌, ◌-◌, ◌==◌, ℕ, suc, zero, Bool, true, false, List, [], ◌∷◌, ◌++◌, Option, Some, None, All, append-nil, append_assoc, ap, arith, codes, drop, get_or, length, length-append, map, not, nat_le, nat_lt, refl, reverse, subst, sym, take, ◌∙◌}
 use Rattle.std.specs.Prelude.{if◌then◌else◌, slice_index}
 use Rattle.std.specs.List.{AllByRecursion, after_first, before_first, list_any, position_or_len, prefix_len, slice_split, suffix_len}
-use Rattle.std.specs.Option.{is_some, option_to_list}
-use Rattle.std.specs.Str.{IsUtf8, bytes_eq, chars, is_utf8}
+use Rattle.std.specs.Option.{is_some}
+use Rattle.std.specs.Str.{IsUtf8, chars, is_utf8}
 use Rattle.std.specs.Str.Lines.{lines, lines_of_parts, strip_carriage_return}
 use Rattle.std.proofs.Math.Numerals.{one-add}
 use Rattle.std.proofs.Math.Seq.{drop-append_seam, get_or-append_seam, split_at, take-append_seam}
@@ -18,12 +18,11 @@ use Rattle.cal_bytes.proofs.TrimLemmas.{trim_is, unindented}
 use Rattle.cal_bytes.specs.rules.Trim.{trim_matches, trim_start_matches}
 use Rattle.cal_timer.proofs.GroupLemmas.{plain_here, plain_none, plain_skipped}
 use Rattle.cal_timer.proofs.LineLemmas.{blank_is_ascii}
-use Rattle.cal_timer.specs.rules.Assignments.{Assignment, assignment_of, assignments_in, is_header, section_of, timer_lines, trimmed}
 use Rattle.cal_timer.specs.rules.Lines.{Group, Line, continued_by, groups, is_blank_or_return, is_comment, is_continued, joined_line, logical_lines, part_of_line, plain_lines}
-use Rattle.cal_read.proofs.SectionAssignmentsLemmas.{assignments_of_timer, header_opens, inside_gives, outside_none}
+use Rattle.cal_read.proofs.SectionAssignmentsLemmas.{assignments_of_timer}
 use Rattle.cal_load.specs.declared.readable.BrokenReason.{BrokenReason}
 use Rattle.cal_load.specs.declared.readable.BrokenReason.TheVariants.{BadHeader, NotUtf8, TooLong}
-use Rattle.cal_load.specs.rules.Readable.{StandFor, no_lines, broken_at, broken_in, broken_reason, is_bad_header, is_broken, is_clean_utf8, is_noncharacter, is_readable, line_in_text, line_limit, lines_until_broken, reason_at, reason_in}
+use Rattle.cal_load.specs.rules.Readable.{StandFor, assignments_read, no_lines, broken_at, broken_in, broken_reason, file_lines, is_bad_header, is_broken, is_clean_utf8, is_noncharacter, is_readable, line_in_text, line_limit, lines_until_broken, reason_at, reason_in, section_read}
 
 -- ## UTF-8
 
@@ -58,7 +57,7 @@ blanks_are_ascii (b ∷ bs) h = (blank_is_ascii b h.0, blanks_are_ascii bs h.1)
 utf8_blanks : (bs : List ℕ) → AllByRecursion (λ b. is_blank_or_return b ≡ true) bs → IsUtf8 bs
 utf8_blanks bs h = utf8_ascii bs (blanks_are_ascii bs h)
 
--- a text is UTF-8 if it is UTF-8 without blanks
+-- a text is UTF-8 if it is UTF-8 without its leading and trailing blanks
 utf8_untrimmed : (text : List ℕ) → IsUtf8 (trim_matches is_blank_or_return text) → IsUtf8 text
 utf8_untrimmed text h =
     let t = trim_is is_blank_or_return text in
@@ -203,21 +202,10 @@ parallel (line ∷ before) stand bad after same =
 
 -- ## Assignments
 
-pub header_read : (inside : Bool) (line : Line) (after : List Line) → is_header (trim_matches is_blank_or_return line.text) ≡ true
-    → assignments_in inside (line ∷ after) ≡ assignments_in (bytes_eq (section_of (trim_matches is_blank_or_return line.text)) (codes "Timer")) after
-header_read inside line after e = sym (assignments_of_timer inside (line ∷ after)) ∙ header_opens (codes "Timer") inside line after e ∙ assignments_of_timer _ after
-
-pub outside_read : (line : Line) (after : List Line) → is_header (trim_matches is_blank_or_return line.text) ≡ false → assignments_in false (line ∷ after) ≡ assignments_in false after
-outside_read line after e = sym (assignments_of_timer false (line ∷ after)) ∙ outside_none (codes "Timer") line after e ∙ assignments_of_timer false after
-
-pub inside_read : (line : Line) (o : Option Assignment) (after : List Line) → is_header (trim_matches is_blank_or_return line.text) ≡ false → assignment_of (trimmed line) ≡ o
-    → assignments_in true (line ∷ after) ≡ option_to_list o ++ assignments_in true after
-inside_read line o after e f =
-    sym (assignments_of_timer true (line ∷ after)) ∙ inside_gives (codes "Timer") line o after e f ∙ ap (λ rest. option_to_list o ++ rest) (assignments_of_timer true after)
-
-pub nothing_read : (inside : Bool) → assignments_in inside [] ≡ []
-unfolding assignments_in timer_lines
-nothing_read inside = refl
+-- the assignments that are read in the sections `Timer` are those of a timer file
+pub timer_section_read : (first : ℕ) (bytes : List ℕ) → section_read (codes "Timer") first bytes ≡ assignments_read first bytes
+unfolding section_read assignments_read
+timer_section_read first bytes = assignments_of_timer false (before_first is_broken (file_lines first bytes))
 
 -- ## Where reading stops
 
@@ -590,7 +578,7 @@ cut_by false false number bytes text rest line after f e c h some r =
     let file : plain_lines number bytes ≡ r.found ++ bad ∷ plain_lines (r.next + 1) after = r.in_file ∙ ap (λ ls. r.found ++ ls) here in
     rw (shown, file) (cut_parallel bad _ _ (parallel r.found stand bad (plain_lines (r.next + 1) after) refl) not_text)
 
--- the text is cut at a line that isn't UTF-8
+-- if the text is cut at a line that isn't UTF-8, it stands for the whole file
 pub reads_cut : (number : ℕ) (bytes text rest line after : List ℕ) → 0 < length rest → FirstLine rest line after → is_readable line ≡ false → Reads number bytes text rest
     → StandFor true (logical_lines number (text ++ line_in_text line)) (logical_lines number bytes)
 reads_cut number bytes text rest line after some f h r =

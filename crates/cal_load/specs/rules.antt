@@ -11,6 +11,7 @@ pub mod Notes
 pub mod Position
 pub mod Readable
 pub mod Resolved
+pub mod Service
 pub mod Specifiers
 pub mod StartedUnit
 pub mod TextFaults

@@ -23,20 +23,20 @@ use crate::paths::{is_folder, is_path, path_in, without_slashes};
 use crate::target_fault::{TargetFault, TargetReason};
 use cal_machine::Tree;
 use cal_unit_index::{
-    DropIns, FileRead, Reason, Unit, UnitFile, UnitIndex, UnitText, find_drop_ins, find_unit,
-    names_of, read_file, unit_stem,
+    DropIns, FileRead, Reason, Unit, UnitFile, UnitIndex, UnitText, UnitType, find_drop_ins,
+    find_unit, names_of, read_file, unit_stem,
 };
 use std::alloc::{AllocError, Global};
 use std::collections::{BTreeMap, BTreeSet};
 
-/// Files that were read.
+/// What [`load_files`] returns: the files, unparsed, and the errors about what it couldn't read.
 #[derive(Debug, Drop)]
 pub struct LoadedFiles {
     /// The files in the order of the targets, each once. Their bytes needn't be UTF-8.
     pub files: Vec<UnitText>,
     /// The units, files and folders that couldn't be read, each with the reason. No error is here twice: if several
-    /// targets lead to the same file that can't be used, its error has the first of them as its target. For a drop-in or
-    /// a folder that can't be read, the target is its own path.
+    /// targets lead to the same file that can't be used, its error has the first of them as its target. For a drop-in
+    /// or a folder that can't be read, the target is its own path.
     pub faults: Vec<TargetFault>,
 }
 
@@ -44,13 +44,13 @@ pub struct LoadedFiles {
 /// timers that other units start, or, if `is_all`, also of all others in the search path.
 ///
 /// `index` is the index of the search path. A target is a path or the name of a timer, as for [`crate::load_timers`]. A
-/// timer stands for its file and its drop-ins. A folder stands for all its files with the suffix `.timer` or `.conf`, by
-/// name, and then for the drop-ins of its timers. To find these, the folder is read as if it were the only folder of the
-/// search path (systemd.unit(5), Unit File Load Path). Any other file stands for itself. A masked unit has no files. What
-/// can't be read is in [`LoadedFiles::faults`], and all other files are still read. A drop-in that is a folder, or a link to
-/// nothing, is skipped, and so is a unit that has no file if there is no target. Without a target, a folder `NAME.wants`
-/// or `NAME.requires` that can't be read is an error, too, and so is one in a folder that is a target. Fails only if
-/// allocation fails.
+/// timer stands for its file and its drop-ins. A folder stands for all its files with the suffix `.timer` or `.conf`,
+/// sorted by name, and then for the drop-ins of its timers. To find these, the folder is read as if it were the only
+/// folder of the search path (systemd.unit(5), Unit File Load Path). Any other file stands for itself. A masked unit
+/// has no files. What can't be read is in [`LoadedFiles::faults`], and all other files are still read. A drop-in that
+/// is a folder, or a link to nothing, is skipped, and so is a unit that has no file if there is no target. Without a
+/// target, a folder `NAME.wants` or `NAME.requires` that can't be read is an error, too, and so is one in a folder
+/// that is a target. Fails only if allocation fails.
 pub fn load_files<T: Tree>(
     alloc: Global,
     tree: &mut T,
@@ -79,7 +79,7 @@ pub fn load_files<T: Tree>(
     Ok(reading.loaded)
 }
 
-/// Reads the files of the timers that are taken without a target.
+/// Reads the files of the timers that other units start, or, if `is_all`, of all timers in the search path.
 fn all_files<T: Tree>(
     alloc: Global,
     tree: &mut T,
@@ -109,9 +109,9 @@ fn all_files<T: Tree>(
 enum Taken {
     /// A text, which was read.
     Read,
-    /// A mask.
+    /// An empty file or a device, which masks a unit.
     Masked,
-    /// Nothing that can be used, for this reason.
+    /// Nothing, or something that can't be read as a file: the reason says which.
     Unusable(Reason),
 }
 
@@ -157,8 +157,8 @@ impl Reading {
         Ok(())
     }
 
-    /// Reads the files of the unit with this stem. Skips a unit that has no file, for example because its file is a link
-    /// to nothing.
+    /// Reads the files of the unit with this stem. Skips a unit that has no file, for example because its file is a
+    /// link to nothing.
     fn take_listed<T: Tree>(
         &mut self,
         alloc: Global,
@@ -181,7 +181,8 @@ impl Reading {
         push_once(&mut self.loaded.faults, TargetFault { target, reason })
     }
 
-    /// Reads the files of a target.
+    /// Reads the files that a target stands for: those of a unit if it is a name, and otherwise those of a folder or
+    /// the single file at this path.
     fn take_target<T: Tree>(
         &mut self,
         alloc: Global,
@@ -280,7 +281,7 @@ impl Reading {
         }
     }
 
-    /// Reads the drop-ins of a unit.
+    /// Reads the drop-ins of a unit under all its names. `asked` is the stem by which the unit was asked for.
     fn take_drop_ins<T: Tree>(
         &mut self,
         alloc: Global,
@@ -293,11 +294,17 @@ impl Reading {
         ensures read { OnOk result ((machine : Machine) (path : List (List ℕ)) → T.shows tree.new machine
             → IsIndexOf machine path index.now
             → let names = names_on machine path (string_bytes file.now.file) (string_bytes file.now.stem) asked.now in
-            AreReadAlso machine (drop_ins machine path names) (lost_drop_ins machine path names) self.old self.new) }
+            AreReadAlso machine (drop_ins machine path UnitType.Timer names) (lost_drop_ins machine path names) self.old self.new) }
         ensures grows { (machine : Machine) → T.shows tree.new machine → T.shows tree.old machine }
     {
         let names = names_of(alloc, index, file, asked)?;
-        let DropIns { paths, unread } = find_drop_ins(alloc, tree, index, names.as_slice())?;
+        let DropIns { paths, unread } = find_drop_ins(
+            alloc,
+            tree,
+            index,
+            UnitType::Timer,
+            names.as_slice(),
+        )?;
         push_lost(&mut self.loaded.faults, unread)?;
         for path in paths {
             self.take_drop_in(alloc, tree, path)?;
@@ -376,7 +383,7 @@ impl Reading {
         Ok(())
     }
 
-    /// Reads the file at a path.
+    /// Reads the file at a path. If it can't be used, adds an error whose target is the path.
     fn take_path<T: Tree>(
         &mut self,
         alloc: Global,
@@ -486,7 +493,7 @@ fn is_absent(reason: &TargetReason) -> bool
     matches!(reason, TargetReason::NotFound)
 }
 
-/// Adds that the target with this name can't be read, for this reason.
+/// Adds an error which says that the target with this name can't be read, for this reason.
 fn push_named(
     alloc: Global,
     faults: &mut Vec<TargetFault>,

@@ -1,18 +1,17 @@
 //! The lines of a unit file that systemd reads (systemd.syntax(7)). It stops reading a file at the first logical line
-//! that isn't UTF-8, that begins like a section header but isn't closed, or that is too long.
+//! that isn't UTF-8, that begins with `[` but isn't a valid section header, or that is too long.
 
 ghost use Rattle.std.specs.Prelude.{◌≡◌, ◌+◌, ◌<◌, ◌≤◌, ◌^◌, ◌∷◌, ◌++◌, ◌==◌, ℕ, List, IfOk, OnOk, MatchOption, length, map, string_bytes, take, false, true};
 ghost use Rattle.std.specs.List.{after_first, list_any, position_or_len, prefix_len};
 ghost use Rattle.std.specs.Str.{chars, is_utf8};
 ghost use Rattle.std.specs.Str.Lines.{lines};
 ghost use Rattle.cal_bytes.specs.rules.Trim.{trim_start_matches};
-ghost use Rattle.cal_timer.specs.rules.Assignments.{assignments_in};
 ghost use Rattle.cal_timer.specs.rules.LineView.{line_at};
 ghost use Rattle.cal_timer.specs.rules.Lines.{Line, is_blank_or_return, is_comment, logical_lines};
 ghost use Rattle.cal_timer.specs.rules.TimerText.{without_mark};
 ghost use Rattle.cal_timer.specs.rules.TimerView.{shown_assignment};
-ghost use Rattle.cal_read.specs.rules.SectionAssignments.{shown_owned_assignment};
-ghost use Rattle.cal_load.specs.rules.Readable.{StandFor, no_lines, assignments_read, broken_in, broken_line, broken_reason, is_bad_header, is_bad_in_header, is_clean_utf8, is_noncharacter, is_readable, line_in_text, lines_until_broken, reason_in};
+ghost use Rattle.cal_read.specs.rules.SectionAssignments.{section_assignments, shown_owned_assignment};
+ghost use Rattle.cal_load.specs.rules.Readable.{StandFor, no_lines, assignments_read, broken_in, broken_line, broken_reason, is_bad_header, is_bad_in_header, is_clean_utf8, is_noncharacter, is_readable, line_in_text, lines_until_broken, reason_in, section_read};
 
 use cal_read::{Assignment, OwnedAssignment, first_logical, read_assignment, section, trim};
 use cal_timer::LogicalLine;
@@ -23,7 +22,8 @@ use std::alloc::{AllocError, Global};
 pub enum BrokenReason {
     /// A line that isn't a comment isn't valid UTF-8, or has a noncharacter of Unicode, such as U+FFFE.
     NotUtf8,
-    /// A line begins with `[`, but doesn't end with `]`.
+    /// A line begins with `[`, but isn't a valid section header: it doesn't end with `]`, or it has a byte that no
+    /// header can have.
     BadHeader,
     /// A line has 1,048,576 bytes or more, after continued lines are joined.
     TooLong,
@@ -41,14 +41,14 @@ pub struct BrokenLine {
 /// What systemd reads of a file.
 #[derive(Drop)]
 pub(crate) struct ReadLines {
-    /// The assignments in the sections `Timer`, in order.
+    /// The assignments in the sections that were asked for, in order.
     pub(crate) assignments: Vec<OwnedAssignment>,
     /// The line at which systemd stops, or `None` if it reads the whole file.
     pub(crate) broken: Option<BrokenLine>,
 }
 
-/// The name of the section whose assignments are read.
-const TIMER_SECTION: &[u8] = b"Timer";
+/// The name of the sections that make up a timer.
+const TIMER_SECTION: &str = "Timer";
 
 /// The bytes of a byte order mark, U+FEFF.
 const BYTE_ORDER_MARK: [u8; 3] = [0xEF, 0xBB, 0xBF];
@@ -56,17 +56,31 @@ const BYTE_ORDER_MARK: [u8; 3] = [0xEF, 0xBB, 0xBF];
 /// The length of the shortest line that is too long for systemd.
 const LINE_LIMIT: usize = 1_048_576;
 
-/// Reads the assignments in the sections `Timer` of a file, up to the line at which systemd stops, if there is one. The
-/// first line of the file has the number `first`. A byte order mark at the start of the file is dropped. Fails only if
-/// allocation fails.
-#[tactic(auto, unfolding(crate::specs::rules::Readable::assignments_read, crate::specs::rules::Readable::broken_line))]
+/// Reads the assignments in the sections `Timer` of a file, as [`read_section`] does.
 pub(crate) fn read_lines(alloc: Global, first: u32, bytes: &[u8]) -> Result<ReadLines, AllocError>
     requires { first + length bytes.now < 2 ^ 32 }
     ensures assignments { IfOk result (λ read. map shown_owned_assignment read.assignments.items ≡ assignments_read first bytes.now) }
     ensures broken { IfOk result (λ read. read.broken ≡ broken_line first bytes.now) }
 {
+    read_section(alloc, TIMER_SECTION, first, bytes)
+}
+
+/// Reads the assignments in the sections called `name` of a file, up to the line at which systemd stops, if there is
+/// one. The first line of the file has the number `first`. A byte order mark at the start of the file is dropped. Fails
+/// only if allocation fails.
+#[tactic(auto, unfolding(crate::specs::rules::Readable::section_read, crate::specs::rules::Readable::broken_line))]
+pub(crate) fn read_section(
+    alloc: Global,
+    name: &str,
+    first: u32,
+    bytes: &[u8],
+) -> Result<ReadLines, AllocError>
+    requires { first + length bytes.now < 2 ^ 32 }
+    ensures assignments { IfOk result (λ read. map shown_owned_assignment read.assignments.items ≡ section_read name.now first bytes.now) }
+    ensures broken { IfOk result (λ read. read.broken ≡ broken_line first bytes.now) }
+{
     let readable = readable_text(alloc, without_mark(bytes))?;
-    read_text(alloc, first, readable.text.as_str(), readable.is_cut)
+    read_text(alloc, name, first, readable.text.as_str(), readable.is_cut)
 }
 
 /// Removes a byte order mark from the start of a file, if there is one.
@@ -186,11 +200,17 @@ fn leading_blanks(line: &[u8]) -> usize
         .count()
 }
 
-/// Reads the assignments in the sections `Timer` of a text that is read in place of a file.
-fn read_text(alloc: Global, first: u32, text: &str, is_cut: bool) -> Result<ReadLines, AllocError>
+/// Reads the assignments in the sections called `name` of a text that is read in place of a file.
+fn read_text(
+    alloc: Global,
+    name: &str,
+    first: u32,
+    text: &str,
+    is_cut: bool,
+) -> Result<ReadLines, AllocError>
     requires { first + length text.now < 2 ^ 32 }
     ensures assignments { IfOk result (λ read. map shown_owned_assignment read.assignments.items
-        ≡ assignments_in false (lines_until_broken is_cut (logical_lines first text.now))) }
+        ≡ section_assignments name.now false (lines_until_broken is_cut (logical_lines first text.now))) }
     ensures broken { IfOk result (λ read. read.broken ≡ broken_in is_cut (logical_lines first text.now)) }
 {
     let mut assignments = Vec::new(alloc);
@@ -211,6 +231,7 @@ fn read_text(alloc: Global, first: u32, text: &str, is_cut: bool) -> Result<Read
         inside = take_line(
             alloc,
             &mut assignments,
+            name,
             inside,
             line.number,
             line.text.as_str(),
@@ -241,7 +262,8 @@ fn reason_in(
     Ok(broken_reason(trim(line.text.as_str())))
 }
 
-/// Returns whether no logical line is in the text `rest`, which begins with the line with this number.
+/// Returns whether the text `rest` has no logical line: it is empty, or has only comments. `number` is the number of
+/// its first physical line.
 fn is_last(alloc: Global, number: u32, rest: &str) -> Result<bool, AllocError>
     requires { number + length rest.now < 2 ^ 32 }
     ensures { IfOk result (λ is_last. is_last ≡ no_lines (logical_lines number rest.now)) }
@@ -289,7 +311,8 @@ fn is_noncharacter(c: char) -> bool
     matches!(c, '\u{FDD0}'..='\u{FDEF}') || c as u32 % 0x1_0000 >= 0xFFFE
 }
 
-/// Returns whether the line begins with `[`, but doesn't end with `]`, or has a byte that a section header can't have.
+/// Returns whether the line begins with `[`, but isn't a valid section header: it doesn't end with `]`, or it has a
+/// byte that no header can have.
 fn is_bad_header(line: &str) -> bool
     ensures { result ≡ is_bad_header line.now }
 {
@@ -310,22 +333,23 @@ fn is_bad_in_header(byte: u8) -> bool
     byte.is_ascii_control() || matches!(byte, b'"' | b'\'' | b'\\')
 }
 
-/// Appends the assignment in a logical line, if the line has one and a section `Timer` is open. `inside` says whether
-/// such a section is open before the line. Returns whether one is open after the line.
+/// Appends the assignment in a logical line, if the line has one and a section called `name` is open. `inside` says
+/// whether such a section is open before the line. Returns whether one is open after the line.
 fn take_line(
     alloc: Global,
     assignments: &mut Vec<OwnedAssignment>,
+    name: &str,
     inside: bool,
     number: u32,
     line: &str,
 ) -> Result<bool, AllocError>
     ensures { IfOk result (λ goes_on. (after : List Line)
-        → map shown_owned_assignment assignments.old.items ++ assignments_in inside (line_at number line.now ∷ after)
-        ≡ map shown_owned_assignment assignments.new.items ++ assignments_in goes_on after) }
+        → map shown_owned_assignment assignments.old.items ++ section_assignments name.now inside (line_at number line.now ∷ after)
+        ≡ map shown_owned_assignment assignments.new.items ++ section_assignments name.now goes_on after) }
 {
     let line = trim(line);
-    if let Some(name) = section(line) {
-        return Ok(name == TIMER_SECTION);
+    if let Some(opened) = section(line) {
+        return Ok(opened == name.as_bytes());
     }
     if !inside {
         return Ok(false);
@@ -347,7 +371,7 @@ fn owned(alloc: Global, assignment: Assignment<'_>) -> Result<OwnedAssignment, A
     })
 }
 
-/// Returns how many lines the bytes have.
+/// Returns the number of physical lines: one for each line feed, and one more if bytes follow the last line feed.
 pub(crate) fn line_count(bytes: &[u8]) -> usize
     ensures { result ≡ length (lines bytes.now) }
 {

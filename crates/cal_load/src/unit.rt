@@ -29,7 +29,7 @@ use crate::zones::{CalendarZones, load_calendar_zones};
 use cal_machine::Tree;
 use cal_unit_index::{
     DropInTexts, DropIns, FileRead, Reason, Unit, UnitFault, UnitFile, UnitIndex, UnitText,
-    find_drop_ins, find_unit, names_of, read_drop_ins, read_file,
+    UnitType, find_drop_ins, find_unit, names_of, read_drop_ins, read_file,
 };
 use std::alloc::{AllocError, Global};
 
@@ -141,12 +141,18 @@ fn drop_in_texts<T: Tree>(
 ) -> Result<Vec<UnitText>, AllocError>
     ensures known { IfOk result (λ texts. (machine : Machine) (path : List (List ℕ)) → T.shows tree.new machine
         → IsIndexOf machine path index.now → map shown_unit_text texts.items
-        ≡ texts_at machine (drop_ins machine path
+        ≡ texts_at machine (drop_ins machine path UnitType.Timer
         (names_on machine path (string_bytes file.now.file) (string_bytes file.now.stem) asked.now))) }
     ensures grows { (machine : Machine) → T.shows tree.new machine → T.shows tree.old machine }
 {
     let names = names_of(alloc, index, file, asked)?;
-    let DropIns { paths, unread } = find_drop_ins(alloc, tree, index, names.as_slice())?;
+    let DropIns { paths, unread } = find_drop_ins(
+        alloc,
+        tree,
+        index,
+        UnitType::Timer,
+        names.as_slice(),
+    )?;
     let DropInTexts { texts, faults } = read_drop_ins(alloc, tree, paths.as_slice())?;
     append(lost, unread)?;
     append(lost, faults)?;

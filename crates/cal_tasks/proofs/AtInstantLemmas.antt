@@ -71,7 +71,7 @@ any_more P Q false more one_is more_is = (
 )
 
 -- at least one expression elapses at the instant, by the test, if and only if the instant is an elapse of one of them
-any_if_elapse : (at : Setting) (secs : ℤ) (list : List (TimerLine Fields)) → (list_any (line_elapses_at at secs) list ≡ true) ↔ IsElapse (map (timed_entry at) list) secs
+pub any_if_elapse : (at : Setting) (secs : ℤ) (list : List (TimerLine Fields)) → (list_any (line_elapses_at at secs) list ≡ true) ↔ IsElapse (map (timed_entry at) list) secs
 any_if_elapse at secs [] = (λ h. absurd (false≢true h), λ n. absurd n)
 any_if_elapse at secs (line ∷ list) =
     any_more (IsPlace (timed_entry at line) secs) (IsElapse (map (timed_entry at) list) secs) (line_elapses_at at secs line) (list_any (line_elapses_at at secs) list)
@@ -83,7 +83,7 @@ both_if P Q true true one_is other_is = (λ h. absurd (false≢true h), λ h. ab
 both_if P Q true false one_is other_is = (λ h. (one_is.0 refl, λ q. false≢true (other_is.1 q)), λ h. refl)
 
 -- `elapses_at` is `true` if and only if the instant is an elapse of an expression, and not of an exception
-at_if_elapse : (at : Setting) (secs : ℤ) (lists : Timer Fields)
+pub at_if_elapse : (at : Setting) (secs : ℤ) (lists : Timer Fields)
     → (elapses_at at secs lists ≡ true) ↔ IsElapseExcept (map (timed_entry at) lists.expressions) (map (timed_entry at) lists.exceptions) secs
 at_if_elapse at secs lists =
     both_if (IsElapse (map (timed_entry at) lists.expressions) secs) (IsElapse (map (timed_entry at) lists.exceptions) secs)

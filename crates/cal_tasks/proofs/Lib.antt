@@ -1,7 +1,9 @@
 pub mod AtInstantLemmas
 pub mod DifferenceLemmas
+pub mod DueLemmas
 pub mod IdleLemmas
 pub mod KeptLemmas
+pub mod LastElapseLemmas
 pub mod LineLemmas
 pub mod ListLemmas
 pub mod NoteLemmas

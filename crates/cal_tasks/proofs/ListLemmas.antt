@@ -1,7 +1,6 @@
 -- Lemmas on the rows of `list`: there is one for each timer.
-use Rattle.std.proofs.Common.{◌≡◌, ℕ, ℤ, ◌+◌, ◌-◌, ◌<◌, ◌≤◌, List, [], ◌∷◌, ◌++◌, Option, None, Some, refl, sym, ap, subst, ◌∙◌, arith, append_assoc, flat_map, get_or, length, map, slice_get, suc, IsPermutation}
+use Rattle.std.proofs.Common.{◌≡◌, ℕ, ℤ, ◌+◌, ◌-◌, ◌<◌, ◌≤◌, List, [], ◌∷◌, ◌++◌, refl, sym, ap, subst, ◌∙◌, arith, append_assoc, flat_map, get_or, length, map, slice_get, suc, IsPermutation}
 use Rattle.std.specs.List.{AllByRecursion}
-use Rattle.std.proofs.lemmas.Bool.Decides.{nat_tests}
 use Rattle.std.proofs.lemmas.List.{get_or-append_right, length-append, length-map}
 use Rattle.std.proofs.lemmas.List.Sorted.{All-permutation, IsPermutation-append_left, IsPermutation-cons, IsPermutation-map, IsPermutation-middle, IsPermutation-refl, IsPermutation-sym, IsPermutation-trans, length_permutation}
 use Rattle.std.proofs.lemmas.Option.{slice_get-get_or}
@@ -22,7 +21,7 @@ each_one : {X Y : Type 0} (f : X → List Y) (g : X → Y) (xs : List X) → All
 each_one f g [] all = refl
 each_one f g (x ∷ xs) all = ap (λ (ys : List _). ys ++ flat_map f xs) all.0 ∙ ap (λ (ys : List _). g x ∷ ys) (each_one f g xs all.1)
 
--- an element after the first ones is at their number
+-- the element after the list `pre` has the length of `pre` as its index
 at_seam : {X : Type 0} (pre : List X) (x : X) (post : List X) (d : X) → get_or (pre ++ x ∷ post) (length pre) d ≡ x
 at_seam pre x post d =
     let first : length pre - length pre ≡ 0 = omega arith in
@@ -36,7 +35,8 @@ module _ (loaded : Loaded) (instants : LoadedTimer → List ℤ) (d : LoadedTime
   end_row : ℕ → UnitView
   end_row index = ended_row loaded (get_or loaded.timers.items index d)
 
-  -- The rows of the timers from some index on. `xs` are the instants of the first of them.
+  -- If `rows` has a row for each timer after the one at `index`, then `rows` with the row of this timer has a row for
+  -- each timer from `index` on. `xs` are the instants at which this timer elapses.
   one_more : (timer : LoadedTimer) (index : ℕ) (xs : List ℤ) (rows : List UnitView) (elapses : List Elapse) (ends : List ℕ)
       → get_or loaded.timers.items index d ≡ timer → IsPermutation rows (map elapse_row elapses ++ map end_row ends)
       → IsPermutation (row_by loaded timer xs ∷ rows) (map elapse_row (next_of_one index xs ++ elapses) ++ map end_row (index_if_ended index xs ++ ends))
@@ -59,7 +59,7 @@ module _ (loaded : Loaded) (instants : LoadedTimer → List ℤ) (d : LoadedTime
       (ap (λ (n : ℕ). n + 1) is ∙ sym (length-append pre (timer ∷ [])))
       (whole ∙ sym (append_assoc pre (timer ∷ []) post)))
 
-  -- every index is one of a timer
+  -- if all elapses in `rest` are of timers below `m`, so are those with the next elapse of one more timer, `n`
   below_next : (n m : ℕ) (xs : List ℤ) (rest : List Elapse) → n < m → AllByRecursion (λ elapse. elapse.timer < m) rest
       → AllByRecursion (λ elapse. elapse.timer < m) (next_of_one n xs ++ rest)
   below_next n m [] rest less all = all
@@ -78,7 +78,7 @@ module _ (loaded : Loaded) (instants : LoadedTimer → List ℤ) (d : LoadedTime
   ended_below n m [] fits = tt
   ended_below n m (xs ∷ lists) fits = below_ended n m xs (of_each index_if_ended (n + 1) lists) (omega arith) (ended_below (n + 1) m lists (omega arith))
 
-  -- the rows in order of the elapses are rows by index
+  -- if all elapses, as contracts see them, are of timers below `m`, so are the elapses themselves
   seen_below : (m : ℕ) (elapses : List TimerElapse) → AllByRecursion (λ elapse. elapse.timer < m) (map elapse_seen elapses)
       → AllByRecursion (λ elapse. elapse.timer < m) elapses
   seen_below m [] all = tt

@@ -2,9 +2,12 @@
 pub mod BetweenReport
 pub mod ClockNotes
 pub mod Difference
+pub mod DueRun
 pub mod IdleLines
+pub mod LastElapse
 pub mod ListLaw
 pub mod ListReport
+pub mod Midnight
 pub mod LoadedElapses
 pub mod SameReport
 pub mod SeveralTimers

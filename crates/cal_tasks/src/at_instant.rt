@@ -41,7 +41,7 @@ pub(crate) fn is_elapse(at: Clocked<'_>, timer: &LoadedTimer, instant: Instant) 
 }
 
 /// Returns whether a timer with these expressions and exceptions elapses at `instant`.
-fn elapses_at(
+pub(crate) fn elapses_at(
     setting: Setting<'_>,
     lines: &[TimerLine],
     exceptions: &[TimerLine],
@@ -54,7 +54,7 @@ fn elapses_at(
 }
 
 /// Returns whether at least one of the expressions elapses at `instant`.
-fn has_any(setting: Setting<'_>, lines: &[TimerLine], instant: Instant) -> bool
+pub(crate) fn has_any(setting: Setting<'_>, lines: &[TimerLine], instant: Instant) -> bool
     ensures { result
         ≡ list_any (line_elapses_at (setting_seen setting.entry) instant.secs) (map shown lines.now) }
 {
@@ -75,7 +75,7 @@ fn line_elapses_at(setting: Setting<'_>, line: &TimerLine, instant: Instant) -> 
 }
 
 /// Returns the zone of the expression on `line`, or UTC if this zone wasn't loaded.
-fn zone_or_utc<'a>(setting: Setting<'a>, line: &TimerLine) -> Zone<'a>
+pub(crate) fn zone_or_utc<'a>(setting: Setting<'a>, line: &TimerLine) -> Zone<'a>
     ensures { zone_of result ≡ zone_or_utc (setting_seen setting.entry) (shown line.now) }
 {
     match zone_for(setting, &line.expr) {
@@ -94,7 +94,7 @@ fn is_place(masks: &Masks, zone: Zone<'_>, instant: Instant) -> bool
     }
 }
 
-/// Returns whether a local second matches.
+/// Returns whether `masks` match the local second `local`: whether it is the first match from `local` on.
 #[tactic(auto, using(cal_civil::proofs::LocalLemmas::local_arith))]
 fn is_match(masks: &Masks, local: i64) -> bool
     requires { IsLocalSecond local }

@@ -1,5 +1,5 @@
-//! Expressions that don't elapse any more, and exceptions that suppress none of the next elapses (systemd.timer(5),
-//! OnCalendar=).
+//! Expressions that don't elapse any more, or for which systemd 252 fails at a midnight that clocks skip, and
+//! exceptions that suppress none of the next elapses (systemd.timer(5), OnCalendar=).
 
 ghost use Rattle.std.specs.Prelude.{◌≡◌, ◌≢◌, ◌++◌, [], ◌∷◌, None, IfOk, MatchResult, OnOk, cond, false, map};
 ghost use Rattle.std.specs.List.{list_any};
@@ -13,9 +13,11 @@ ghost use Rattle.cal_plan.specs.rules.TimerElapses.{lists_shown};
 ghost use Rattle.cal_plan.specs.declared.plan_fault.PlanFault.TheVariants.{NoMemory};
 ghost use Rattle.cal_tasks.specs.rules.IdleLines.{elapses_of_line, idle_as, idle_lines, never_elapses, next_elapses, suppresses_nothing};
 ghost use Rattle.cal_tasks.specs.rules.LoadedElapses.{lists_of_loaded, setting_for, unzoned_line};
+ghost use Rattle.cal_tasks.specs.rules.Midnight.{stops_at_midnight};
 
 use crate::clocked::Clocked;
 use crate::elapses::{elapses_in, setting_for, take_first};
+use crate::midnight::stops_in;
 use cal_elapse::Elapses;
 use cal_load::LoadedTimer;
 use cal_plan::{Instants, PlanFault, merge_of, zone_for};
@@ -32,6 +34,9 @@ const MAX_ELAPSES: u32 = 10_000;
 pub enum IdleKind {
     /// The expression doesn't elapse after the present.
     NeverElapses,
+    /// systemd 252 fails for the expression on the day before one of the midnights of the next three years, because
+    /// the clock of its zone skips this midnight.
+    StopsAtMidnight,
     /// The exception suppresses none of the next 10,000 elapses that the timer would have without its exceptions.
     SuppressesNothing,
 }
@@ -39,14 +44,14 @@ pub enum IdleKind {
 /// An expression or an exception that is reported as having no effect.
 #[derive(Clone, Copy, PartialEq, Eq, Debug)]
 pub struct IdleLine {
-    /// The number of the line with the expression or exception. [`LoadedTimer::position`] finds the file of this line.
+    /// The number of the line with the expression or exception. [`cal_load::TimerFiles::position`] finds the file.
     pub number: u32,
     pub kind: IdleKind,
 }
 
-/// Returns those lines of a timer that have no effect: first the expressions that don't elapse after the present, and
-/// then the exceptions that suppress nothing. For an exception, only the next 10,000 elapses that the timer would have
-/// without its exceptions are checked.
+/// Returns the lines of a timer that have no effect: first the expressions that don't elapse after the present, then
+/// those for which systemd 252 fails at a midnight that clocks skip, and then the exceptions that suppress nothing.
+/// For an exception, only the next 10,000 elapses that the timer would have without its exceptions are checked.
 ///
 /// Fails with [`PlanFault::NoSuchZone`] if an expression or an exception names a zone that wasn't loaded, and with
 /// [`PlanFault::NoMemory`] if allocation fails.
@@ -82,6 +87,7 @@ fn idle_among(
 {
     let mut found = Vec::new(alloc);
     add_never(alloc, &mut found, setting, lines)?;
+    add_stopping(&mut found, setting, lines)?;
     // Most timers have no exceptions, and 10,000 elapses take their time.
     if exceptions.is_empty() {
         return Ok(found);
@@ -125,6 +131,28 @@ fn add_never(
     for line in lines {
         let never = never_elapses(alloc, setting, line)?;
         push_if(found, never, line.number, IdleKind::NeverElapses)?;
+    }
+    Ok(())
+}
+
+/// Appends the expressions for which systemd 252 fails at a midnight that clocks skip.
+fn add_stopping(
+    found: &mut Vec<IdleLine>,
+    setting: Setting<'_>,
+    lines: &[TimerLine],
+) -> Result<(), AllocError>
+    ensures { OnOk result (found.new.items ≡ found.old.items
+        ++ idle_as IdleKind.StopsAtMidnight
+        (stops_at_midnight (setting_seen setting.entry) setting.entry.now.secs)
+        (map shown lines.now)) }
+{
+    for line in lines {
+        push_if(
+            found,
+            stops_in(setting, line),
+            line.number,
+            IdleKind::StopsAtMidnight,
+        )?;
     }
     Ok(())
 }

@@ -1,6 +1,6 @@
 //! The reports of `calendar-timers` about timers that were loaded: a list of their next elapses, each timer in detail,
-//! their elapses in a range of instants, and what only one of two timers has. Besides, the expressions and exceptions
-//! that have no effect.
+//! their elapses in a range of instants, and what only one of two timers has. Besides, whether the run of a service
+//! that starts now is due, and the expressions and exceptions that have no effect.
 #![tactic(auto)]
 
 mod at_instant;
@@ -9,12 +9,16 @@ mod clock_note;
 mod clock_shift;
 mod clocked;
 mod difference;
+mod due;
 mod elapses;
 mod idle;
 mod kept_notes;
 mod list_report;
+mod midnight;
 mod next;
+mod notes;
 mod order;
+mod past;
 mod range;
 pub mod report_laws;
 mod same_report;
@@ -28,8 +32,10 @@ mod zone_change;
 
 pub use between_report::between_rows;
 pub use clocked::Clocked;
+pub use due::{DueRun, due_run};
 pub use idle::{IdleKind, IdleLine, idle_lines};
 pub use list_report::list_rows;
+pub use midnight::stops_at_midnight;
 pub use same_report::compare;
 pub use show_report::shown_timer;
 pub use when::{WhenFault, read_when};

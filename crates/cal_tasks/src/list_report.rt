@@ -1,13 +1,14 @@
-//! The report of `list`: each unit with its next elapse and its notes.
+//! The report of `list`: for each unit a row with its name, its next elapse and its notes.
 
 ghost use Rattle.std.specs.Prelude.{◌≡◌, ◌≢◌, ◌++◌, IfErr, IfOk, OnOk, codes, false, map, option_copied, slice_get, string_bytes, true};
 ghost use Rattle.cal_plan.specs.rules.ZoneFor.{IsUnzoned};
 ghost use Rattle.cal_plan.specs.declared.plan_fault.PlanFault.TheVariants.{NoMemory};
 ghost use Rattle.cal_timers_report.specs.rules.ReportView.{unit_seen};
-ghost use Rattle.cal_tasks.specs.rules.ListReport.{IsListOf, elapsing_row, elapsing_rows, ended_row, ended_rows, failed_rows, list_notes, masked_rows, note_if, noted_row, row_if};
+ghost use Rattle.cal_tasks.specs.rules.ListReport.{IsListOf, elapsing_row, elapsing_rows, ended_row, ended_rows, failed_rows, list_notes, masked_rows, noted_row, row_if};
 ghost use Rattle.cal_tasks.specs.rules.LoadedElapses.{first_unzoned_line};
 
 use crate::clocked::Clocked;
+use crate::notes::{push_all, push_if};
 use crate::several::next_of_timers;
 use crate::timer_elapse::TimerElapse;
 use cal_load::{Loaded, LoadedTimer, TargetFault};
@@ -19,8 +20,8 @@ use std::alloc::{AllocError, Global};
 /// Returns a row for each unit of `list`: first the timers that elapse after the present, soonest first, then the other
 /// timers, then the units with the names `masked`, and last the units that fail to load.
 ///
-/// The notes of a timer are `disabled` if no other unit starts it, `never` if it has expressions and doesn't elapse any
-/// more, its settings that are noted, and `exceptions` if it has any.
+/// The notes of a timer are `disabled` if no other unit starts it, `never` if it has expressions and doesn't elapse
+/// any more, all of [`LoadedTimer::notes`], and `exceptions` if it has exceptions.
 ///
 /// Fails with [`PlanFault::NoSuchZone`] if an expression or an exception of a timer names a zone that wasn't loaded for
 /// this timer, and with [`PlanFault::NoMemory`] if allocation fails.
@@ -85,7 +86,7 @@ fn push_elapsing<'a>(
     Ok(())
 }
 
-/// Appends a row for each timer that elapses no more.
+/// Appends a row for each timer that doesn't elapse any more.
 fn push_ended<'a>(
     alloc: Global,
     rows: &mut Vec<ListRow<'a>>,
@@ -101,7 +102,7 @@ fn push_ended<'a>(
     Ok(())
 }
 
-/// Appends the row of a timer that elapses no more. Without a timer, appends nothing.
+/// Appends the row of a timer that doesn't elapse any more. Without a timer, appends nothing.
 fn push_ended_one<'a>(
     alloc: Global,
     rows: &mut Vec<ListRow<'a>>,
@@ -169,7 +170,7 @@ fn elapsing_row<'a>(
     })
 }
 
-/// Returns the row of a timer that elapses no more.
+/// Returns the row of a timer that doesn't elapse any more.
 fn ended_row<'a>(
     alloc: Global,
     loaded: &'a Loaded,
@@ -198,7 +199,7 @@ fn noted_row<'a>(alloc: Global, unit: &'a str, note: &'a str) -> Result<ListRow<
     })
 }
 
-/// Returns the notes of a timer. `is_ended` says that it elapses no more.
+/// Returns the notes of a timer. `is_ended` is `true` if it doesn't elapse any more.
 fn notes_of<'a>(
     alloc: Global,
     loaded: &'a Loaded,
@@ -217,26 +218,4 @@ fn notes_of<'a>(
     push_all(&mut notes, timer.notes.as_slice())?;
     push_if(&mut notes, !timer.exceptions().is_empty(), "exceptions")?;
     Ok(notes)
-}
-
-/// Appends a note if it applies.
-fn push_if<'a>(notes: &mut Vec<&'a str>, is_noted: bool, note: &'a str) -> Result<(), AllocError>
-    ensures { OnOk result (map (λ note. note.now) notes.new.items
-        ≡ map (λ note. note.now) notes.old.items ++ note_if is_noted note.now) }
-{
-    if is_noted {
-        notes.push(note)?;
-    }
-    Ok(())
-}
-
-/// Appends all these notes.
-fn push_all<'a>(notes: &mut Vec<&'a str>, more: &'a [String]) -> Result<(), AllocError>
-    ensures { OnOk result (map (λ note. note.now) notes.new.items
-        ≡ map (λ note. note.now) notes.old.items ++ map string_bytes more.now) }
-{
-    for note in more {
-        notes.push(note.as_str())?;
-    }
-    Ok(())
 }

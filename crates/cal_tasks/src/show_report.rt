@@ -11,6 +11,8 @@ ghost use Rattle.std.specs.Option.{option_map};
 use crate::clock_note::{ClockChange, ClockNote};
 use crate::clocked::Clocked;
 use crate::elapses::first_elapses;
+use crate::notes::push_all;
+use crate::past::last_elapse;
 use crate::skipped::clock_notes;
 use cal_load::LoadedTimer;
 use cal_plan::PlanFault;
@@ -32,8 +34,11 @@ pub fn shown_timer<'a>(
     ensures { IfOk result (λ view. IsShownTimer at.entry count (map string_bytes warnings.items) timer.now (timer_seen view)) }
 {
     let elapses = first_elapses(alloc, at, timer, count)?;
+    // The call above found all zones, so the one below fails only if allocation fails.
+    let last = last_elapse(alloc, at, timer, timer.exceptions())?;
     let notes = clock_notes(alloc, at, timer)?;
     let files = file_paths(alloc, timer)?;
+    let settings = notes_of(alloc, timer)?;
     let expressions = shown_lines(alloc, timer, timer.lines())?;
     let exceptions = shown_lines(alloc, timer, timer.exceptions())?;
     let clock = clock_times(alloc, timer, notes.first.as_slice())?;
@@ -42,12 +47,22 @@ pub fn shown_timer<'a>(
         files,
         expressions,
         exceptions,
-        notes: timer.notes.as_slice(),
+        notes: settings,
         warnings,
+        last,
         elapses,
         clock,
         has_more_clock: notes.has_more,
     })
+}
+
+/// Returns the notes of a timer: its other settings.
+fn notes_of<'a>(alloc: Global, timer: &'a LoadedTimer) -> Result<Vec<&'a str>, AllocError>
+    ensures { IfOk result (λ notes. map (λ note. note.now) notes.items ≡ map string_bytes timer.now.notes.items) }
+{
+    let mut notes: Vec<&'a str> = Vec::new(alloc);
+    push_all(&mut notes, timer.notes.as_slice())?;
+    Ok(notes)
 }
 
 /// Returns the paths of a timer's files.
@@ -62,7 +77,7 @@ fn file_paths<'a>(alloc: Global, timer: &'a LoadedTimer) -> Result<Vec<&'a str>,
     Ok(paths)
 }
 
-/// Returns the expressions or the exceptions of a timer, each with its place.
+/// Returns the expressions or the exceptions of a timer, each with its file and the number of its line there.
 fn shown_lines<'a>(
     alloc: Global,
     timer: &'a LoadedTimer,
@@ -88,7 +103,7 @@ fn shown_line<'a>(timer: &'a LoadedTimer, line: &'a TimerLine) -> ShownLine<'a>
     }
 }
 
-/// Returns where the line with this continued number is.
+/// Returns the file that has the line with this continued number, and the number of the line in this file.
 fn place_of<'a>(timer: &'a LoadedTimer, number: u32) -> Option<Place<'a>>
     ensures { IsPlaceOf timer.now.files number (option_map place_seen result) }
 {

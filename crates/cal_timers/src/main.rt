@@ -10,6 +10,7 @@ use crate::machine::Machine;
 use cal_answers::answer_arguments;
 use cal_bytes::{Port, Sink, put_all};
 use cal_timers_report::Style;
+use std::env::FillError;
 use std::io::{ErrorKind, IsTerminal};
 use std::process::ExitCode;
 use std::rt::Env;
@@ -20,6 +21,10 @@ const FAILED: u8 = 1;
 
 /// The exit status if an argument isn't UTF-8.
 const USAGE: u8 = 2;
+
+/// The exit status of `due` for each error. With a status from 1 to 254, systemd would skip the service silently
+/// (systemd.service(5), ExecCondition=).
+const NOT_KNOWN: u8 = 255;
 
 /// The minimum width of output to a terminal, in columns.
 const MIN_WIDTH: usize = 80;
@@ -39,9 +44,9 @@ fn main(rt: HostRuntime) -> ExitCode {
     let arguments = match given_arguments(&rt) {
         Ok(arguments) => arguments,
         Err(error) if error.kind() == ErrorKind::OutOfMemory => {
-            return exit_with(&mut err, OUT_OF_MEMORY, FAILED);
+            return exit_with(&mut err, OUT_OF_MEMORY, status_unless_due(&rt, FAILED));
         }
-        Err(_) => return exit_with(&mut err, NOT_UTF_8, USAGE),
+        Err(_) => return exit_with(&mut err, NOT_UTF_8, status_unless_due(&rt, USAGE)),
     };
     let machine = Machine {
         rt: &rt,
@@ -62,6 +67,20 @@ fn main(rt: HostRuntime) -> ExitCode {
 /// Returns the arguments after the program's name.
 fn given_arguments<R: Env + AllocGlobal>(rt: &R) -> io::Result<Vec<String>> {
     Ok(env::args(rt)?.skip(1).collect(rt.alloc())?)
+}
+
+/// Returns the exit status for arguments that can't be read: [`NOT_KNOWN`] if one of them is `due`, which may be the
+/// verb, and otherwise `status`. Allocates nothing.
+fn status_unless_due<R: Env>(rt: &R, status: u8) -> u8 {
+    let mut word = [0; 3];
+    for index in 1..usize::MAX {
+        match rt.arg(index, &mut word) {
+            Ok(_) if word == *b"due" => return NOT_KNOWN,
+            Ok(_) | Err(FillError::TooLong) => word = [0; 3],
+            Err(FillError::NotPresent) => return status,
+        }
+    }
+    status
 }
 
 /// Writes the error line about arguments that can't be read, and returns the exit status.

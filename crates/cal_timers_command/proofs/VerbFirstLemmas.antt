@@ -1,9 +1,10 @@
 -- Lemmas about the search for the first argument that is neither an option nor the value of an option.
-use Rattle.std.proofs.Common.{◌≡◌, ◌<◌, ◌+◌, ◌-◌, ◌&&◌, ◌||◌, ◌∙◌, ℕ, zero, suc, Bool, true, false, List, [], None, Some, add-one, arith, get_or, length, map, drop, take, refl, sym, ◌∷◌, ◌++◌}
+use Rattle.std.proofs.Common.{◌≡◌, ◌<◌, ◌+◌, ◌-◌, ◌&&◌, ◌||◌, ◌∙◌, ℕ, zero, suc, Bool, true, false, List, [], None, Some, add-one, arith, codes, get_or, length, map, drop, take, refl, sym, ◌∷◌, ◌++◌}
 use Rattle.std.proofs.lemmas.List.{drop-map, take-map, take_rest}
 use Rattle.std.specs.Prelude.{not}
+use Rattle.std.specs.Str.{bytes_eq}
 use Rattle.clap.specs.Words.{Text}
-use Rattle.cal_timers_command.specs.rules.VerbFirst.{first_failing, first_word, is_option, is_passed, is_value_at, leads, list_first, moved_first, needs_value, verb_first}
+use Rattle.cal_timers_command.specs.rules.VerbFirst.{asks_due, first_failing, first_word, is_option, is_passed, is_value_at, leads, list_first, moved_first, needs_value, verb_first}
 
 next_none : (test : ℕ → Bool) (i : ℕ) → first_failing test i ≡ None → test i ≡ true → first_failing test (i + 1) ≡ None
 unfolding first_failing
@@ -60,6 +61,15 @@ pub not_led : (arguments : List Text) (i : ℕ) (text : Text) → Some i ≡ fir
     → list_first arguments ≡ verb_first arguments
 unfolding verb_first
 not_led arguments i text found at other = rw (← found, ← at, other) refl
+
+pub none_due : (arguments : List Text) → None ≡ first_word arguments → false ≡ asks_due arguments
+unfolding asks_due
+none_due arguments none = rw (← none) refl
+
+pub word_due : (arguments : List Text) (i : ℕ) (text : Text) → Some i ≡ first_word arguments → text ≡ get_or arguments i []
+    → bytes_eq text (codes "due") ≡ asks_due arguments
+unfolding asks_due
+word_due arguments i text found at = rw (← found, ← at) refl
 
 pub moved : {A : Type 0} (text : A → Text) (arguments : List A) (i : ℕ) (first : Text) (pushed before after : List Text) → pushed ≡ first ∷ []
     → before ≡ pushed ++ map text (take i arguments) → after ≡ before ++ map text (take (length arguments - (i + 1)) (drop (i + 1) arguments))

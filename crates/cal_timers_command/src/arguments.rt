@@ -32,6 +32,8 @@ pub(crate) enum ArgumentForm {
     ShortFlag(char),
     /// As one positional argument, which is required.
     One,
+    /// As a positional argument that may be left out.
+    AtMostOne,
     /// As any number of positional arguments.
     Any,
     /// As at least one positional argument.
@@ -59,8 +61,8 @@ pub(crate) const IN: Argument = Argument {
     help: "Show times in this zone{n}[default: that of --zone, TZ or the machine, in this order]",
 };
 
-/// It isn't described to `clap` as being in conflict with `ZONE`: the contract of `clap` names the errors only of
-/// commands whose arguments have no rules about each other.
+/// `--utc` isn't described to `clap` as being in conflict with `--zone`: the contract of `clap` says which errors are
+/// possible only for commands whose arguments have no rules about each other.
 pub(crate) const UTC: Argument = Argument {
     name: "utc",
     form: ArgumentForm::Flag,
@@ -72,14 +74,14 @@ pub(crate) const NOW: Argument = Argument {
     name: "now",
     form: ArgumentForm::Value,
     value_name: "@N",
-    help: "Present time in Unix seconds [default: the clock]",
+    help: "Current time in Unix seconds [default: the clock]",
 };
 
 pub(crate) const ROOT: Argument = Argument {
     name: "root",
     form: ArgumentForm::Value,
     value_name: "DIR",
-    help: "Look for units and zones below this folder [default: /]",
+    help: "Look for units and zones below this directory [default: /]",
 };
 
 pub(crate) const USER: Argument = Argument {
@@ -126,14 +128,14 @@ const ANY_TIMERS: Argument = Argument {
     name: TARGET,
     form: ArgumentForm::Any,
     value_name: "UNIT|FILE|DIR",
-    help: "Unit, timer file or folder of timer files",
+    help: "Unit, timer file or directory of timer files",
 };
 
 const TIMERS: Argument = Argument {
     name: TARGET,
     form: ArgumentForm::AtLeastOne,
     value_name: "UNIT|FILE|DIR",
-    help: "Unit, timer file or folder of timer files",
+    help: "Unit, timer file or directory of timer files",
 };
 
 const EXPRESSIONS: Argument = Argument {
@@ -141,6 +143,13 @@ const EXPRESSIONS: Argument = Argument {
     form: ArgumentForm::AtLeastOne,
     value_name: "EXPRESSION",
     help: "Calendar expression, as in systemd.time(7)",
+};
+
+const ONE_TIMER: Argument = Argument {
+    name: TARGET,
+    form: ArgumentForm::AtMostOne,
+    value_name: "UNIT|FILE",
+    help: "Unit or timer file [default: the unit in $TRIGGER_UNIT]",
 };
 
 const FROM: Argument = Argument {
@@ -185,6 +194,8 @@ const SAME_ARGUMENTS: [Argument; 9] = [ONE_SIDE, OTHER_SIDE, ZONE, UTC, IN, NOW,
 
 const NEXT_ARGUMENTS: [Argument; 8] = [COUNT, ZONE, UTC, IN, NOW, ROOT, JSON, EXPRESSIONS];
 
+const DUE_ARGUMENTS: [Argument; 8] = [ZONE, UTC, IN, NOW, ROOT, USER, JSON, ONE_TIMER];
+
 /// Returns whether the argument is an option whose value is the next argument.
 pub(crate) fn needs_value(argument: &str) -> bool
     ensures { result ≡ needs_value argument.now }
@@ -206,5 +217,6 @@ pub(crate) fn arguments_of(verb: Verb) -> &'static [Argument]
         Verb::Between => &BETWEEN_ARGUMENTS,
         Verb::Same => &SAME_ARGUMENTS,
         Verb::Next => &NEXT_ARGUMENTS,
+        Verb::Due => &DUE_ARGUMENTS,
     }
 }

@@ -85,6 +85,7 @@ fn build_argument<'a>(alloc: Global, argument: Argument) -> Arg<'a>
         ArgumentForm::Flag => flag_arg(arg, argument),
         ArgumentForm::ShortFlag(short) => flag_arg(arg, argument).short(short),
         ArgumentForm::One => positional_arg(arg, argument, ArgAction::Set).required(true),
+        ArgumentForm::AtMostOne => positional_arg(arg, argument, ArgAction::Set),
         ArgumentForm::Any => positional_arg(arg, argument, ArgAction::Append),
         ArgumentForm::AtLeastOne => {
             positional_arg(arg, argument, ArgAction::Append).required(true)

@@ -1,5 +1,5 @@
-//! The usage of the program, what each verb does, and the text below the options in each help text. `clap` prints a line
-//! break for `{n}`.
+//! The usage of the program, what each verb does, and the text below the options in each help text. `clap` prints a
+//! line break for `{n}`.
 
 use crate::question::Verb;
 
@@ -12,7 +12,6 @@ pub(crate) struct VerbHelp {
     pub(crate) notes: &'static str,
 }
 
-/// Returns what the help says about the verb.
 pub(crate) fn help_of(verb: Verb) -> VerbHelp {
     match verb {
         Verb::List => VerbHelp {
@@ -39,6 +38,10 @@ pub(crate) fn help_of(verb: Verb) -> VerbHelp {
             about: "Show when calendar expressions next elapse",
             notes: NEXT,
         },
+        Verb::Due => VerbHelp {
+            about: "Check whether the run that starts now is due, for ExecCondition=",
+            notes: DUE,
+        },
     }
 }
 
@@ -48,22 +51,25 @@ pub(crate) const USAGE: &str =
     "calendar-timers [OPTIONS] [UNIT|FILE|DIR]...\n       calendar-timers VERB [OPTIONS] [ARGUMENT]...";
 
 pub(crate) const PROGRAM: &str =
-    "Without a verb, the timers are listed. See 'calendar-timers VERB --help' for the{n}arguments and options of a verb.{n}{n}Examples:{n}  calendar-timers{n}  calendar-timers show backup{n}  calendar-timers lint ./units{n}  calendar-timers between 'Fri 18:00' 'Mon 06:00'{n}  calendar-timers next 'Mon..Fri 09:00'{n}{n}Exit status:{n}  0  success{n}  1  a timer is invalid, lint found an error, or two timers differ{n}  2  the command line, the root, a zone or a timer of 'same' is invalid";
+    "Without a verb, the timers are listed. See 'calendar-timers VERB --help' for the{n}arguments and options of a verb.{n}{n}Examples:{n}  calendar-timers{n}  calendar-timers show backup{n}  calendar-timers lint ./units{n}  calendar-timers between 'Fri 18:00' 'Mon 06:00'{n}  calendar-timers next 'Mon..Fri 09:00'{n}{n}Exit status:{n}  0  success{n}  1  a timer is invalid, lint found an error, or two timers differ{n}  2  the command line, the root, a zone or a timer of 'same' is invalid{n}'due' has statuses of its own, which its help lists.";
 
 const LIST: &str =
-    "Without arguments, the timers that other units start are listed, and with --all{n}the others, too.{n}You can omit '.timer' from the name of a UNIT. Write './backup.timer' for a FILE{n}in the current folder.{n}Put '--' before a name that begins with '-'. Join a value that begins with '-'{n}to its option with '=', as in --zone=-05:00.{n}{n}Examples:{n}  calendar-timers{n}  calendar-timers list --utc backup ./clean.timer{n}  calendar-timers list --root=/mnt --json";
+    "Without arguments, the timers that other units start are listed, and with --all{n}the others, too.{n}You can omit '.timer' from the name of a UNIT. Write './backup.timer' for a FILE{n}in the current directory.{n}Put '--' before a name that begins with '-'. Join a value that begins with '-'{n}to its option with '=', as in --zone=-05:00.{n}{n}Examples:{n}  calendar-timers{n}  calendar-timers list --utc backup ./clean.timer{n}  calendar-timers list --root=/mnt --json";
 
 const SHOW: &str =
-    "You can omit '.timer' from the name of a UNIT. Write './backup.timer' for a FILE{n}in the current folder.{n}Put '--' before a name that begins with '-'. Join a value that begins with '-'{n}to its option with '=', as in --zone=-05:00.{n}{n}Examples:{n}  calendar-timers show backup{n}  calendar-timers show -n 10 --zone=Europe/Berlin ./backup.timer";
+    "You can omit '.timer' from the name of a UNIT. Write './backup.timer' for a FILE{n}in the current directory.{n}Put '--' before a name that begins with '-'. Join a value that begins with '-'{n}to its option with '=', as in --zone=-05:00.{n}{n}Examples:{n}  calendar-timers show backup{n}  calendar-timers show -n 10 --zone=Europe/Berlin ./backup.timer";
 
 const LINT: &str =
-    "Without arguments, the timers that other units start are checked, and with --all{n}the others, too. In a DIR, all '*.timer' and '*.conf' files are checked.{n}You can omit '.timer' from the name of a UNIT. Write './backup.timer' for a FILE{n}in the current folder.{n}Put '--' before a name that begins with '-'. Join a value that begins with '-'{n}to its option with '=', as in --zone=-05:00.{n}{n}Examples:{n}  calendar-timers lint{n}  calendar-timers lint backup ./units{n}  calendar-timers lint --strict --json ./clean.timer{n}{n}Exit status:{n}  0  no errors; there may be warnings, unless --strict is given{n}  1  an error was found or, with --strict, a warning{n}  2  the command line, the root or a zone is invalid";
+    "Without arguments, the timers that other units start are checked, and with --all{n}the others, too. In a DIR, all '*.timer' and '*.conf' files are checked.{n}You can omit '.timer' from the name of a UNIT. Write './backup.timer' for a FILE{n}in the current directory.{n}Put '--' before a name that begins with '-'. Join a value that begins with '-'{n}to its option with '=', as in --zone=-05:00.{n}{n}Examples:{n}  calendar-timers lint{n}  calendar-timers lint backup ./units{n}  calendar-timers lint --strict --json ./clean.timer{n}{n}Exit status:{n}  0  no errors; there may be warnings, unless --strict is given{n}  1  an error was found or, with --strict, a warning{n}  2  the command line, the root or a zone is invalid";
 
 const BETWEEN: &str =
     "FROM and TO are timestamps, as in systemd.time(7), or weekdays with a time, such{n}as 'Fri 18:00'. An elapse at FROM is listed, and one at TO is not.{n}Without more arguments, the elapses of the timers that other units start are{n}listed, and with --all those of the others, too.{n}Put '--' before an argument that begins with '-'. Join a value that begins with{n}'-' to its option with '=', as in --zone=-05:00.{n}{n}Examples:{n}  calendar-timers between 'Fri 18:00' 'Mon 06:00'{n}  calendar-timers between today tomorrow backup logrotate{n}  calendar-timers between --json 2026-12-24 2027-01-02 ./units";
 
 const SAME: &str =
-    "The elapses after the present and through 2199 are compared. Other settings{n}that only one of them has, such as OnBootSec=, are listed, too.{n}Put '--' before an argument that begins with '-'. Join a value that begins with{n}'-' to its option with '=', as in --zone=-05:00.{n}{n}Examples:{n}  calendar-timers same backup ./backup.timer{n}  calendar-timers same 'Mon..Fri 09:00' 'Mon,Tue,Wed,Thu,Fri 9:00'{n}{n}Exit status:{n}  0  the timers elapse at the same instants{n}  1  they differ, or a drop-in or a folder of units can't be read{n}  2  one of them isn't a single valid timer, or the command line, the root or a{n}     zone is invalid";
+    "The elapses after the current time and through 2199 are compared. Other settings{n}that only one of them has, such as OnBootSec=, are listed, too.{n}Put '--' before an argument that begins with '-'. Join a value that begins with{n}'-' to its option with '=', as in --zone=-05:00.{n}{n}Examples:{n}  calendar-timers same backup ./backup.timer{n}  calendar-timers same 'Mon..Fri 09:00' 'Mon,Tue,Wed,Thu,Fri 9:00'{n}{n}Exit status:{n}  0  the timers elapse at the same instants{n}  1  they differ, or a drop-in or a directory of units can't be read{n}  2  one of them isn't a single valid timer, or the command line, the root or a{n}     zone is invalid";
 
 const NEXT: &str =
     "Join a value that begins with '-' to its option with '=', as in --zone=-05:00.{n}{n}Examples:{n}  calendar-timers next 'Mon..Fri 09:00'{n}  calendar-timers next -n 3 --utc weekly '*-*-1..7 18:00:00'";
+
+const DUE: &str =
+    "For a service whose timer has exceptions, write in its file:{n}  [Service]{n}  ExecCondition=/usr/bin/calendar-timers due{n}The run is due unless an exception elapses at the last instant, at or before the{n}current time, at which OnCalendar= does.{n}Without UNIT and FILE, the timer is the one in $TRIGGER_UNIT, which systemd sets{n}if a timer starts the service, see systemd.exec(5). If it isn't set, or doesn't{n}name a timer, the run is due.{n}{n}Examples:{n}  calendar-timers due{n}  calendar-timers due backup{n}  calendar-timers due --now=@1798162200 --json backup{n}{n}Exit status:{n}    0  the run is due{n}    1  it isn't due: its elapse is an exception, or there was no elapse so far{n}  255  the command line, the root, a zone or the timer is invalid";

@@ -14,3 +14,4 @@ mod verb_first;
 
 pub use command_fault::CommandFault;
 pub use question::{Question, Verb};
+pub use verb_first::asks_due;

@@ -1,11 +1,11 @@
 //! The question that the arguments ask: a verb, its targets and its options.
 
-ghost use Rattle.std.specs.Prelude.{◌≡◌, find, true, vec_len};
+ghost use Rattle.std.specs.Prelude.{◌≡◌, IfOk, find, true, vec_len};
 ghost use Rattle.std.specs.Option.{ForSome};
 ghost use Rattle.std.specs.Str.{bytes_eq};
 ghost use Rattle.cal_zone.specs.rules.Instant.{IsInstant};
 ghost use Rattle.cal_timers_command.specs.rules.Questions.{IsElapseCount, fits_verb};
-ghost use Rattle.cal_timers_command.specs.rules.Verbs.{verb_name, verb_named};
+ghost use Rattle.cal_timers_command.specs.rules.Verbs.{is_similar, similar_verb, verb_name, verb_named};
 
 use std::alloc::{AllocError, Global};
 use strsim::osa_distance;
@@ -25,6 +25,8 @@ pub enum Verb {
     Same,
     /// The next elapses of calendar expressions.
     Next,
+    /// Whether the run of a service that starts now is due.
+    Due,
 }
 
 /// A verb, its targets and its options.
@@ -33,18 +35,20 @@ pub struct Question {
     pub verb: Verb,
     /// The arguments that are neither the verb nor options nor the values of options, in the order given.
     ///
-    /// - `list` and `lint`: any number of units, files and folders. Without any, the question is about the units that other
-    ///   units start, or about all units if `is_all`.
+    /// - `list` and `lint`: any number of units, files and folders. Without any, the question is about the units that
+    ///   other units start, or about all units if `is_all`.
     /// - `show`: one or more units, files and folders.
     /// - `between`: the start and the end of the range, and then any number of units, files and folders, as for `list`.
     /// - `same`: two units, files or calendar expressions.
     /// - `next`: one or more calendar expressions.
+    /// - `due`: at most one unit or file. Without any, the question is about the unit in `$TRIGGER_UNIT`.
     pub targets: Vec<String>,
     /// The value of `--zone`, or `UTC` if `--utc` is given. The value isn't empty, and its form isn't checked. If
-    /// neither option is given, this is `None`: the local zone is the machine's or, for `next`, first that of `TZ`.
+    /// neither option is given, this is `None`: the local zone is the machine's or, for `next`, that of `TZ` if it is
+    /// set.
     pub zone: Option<String>,
-    /// The value of `--in`: the zone in which times are shown. The value isn't empty, and its form isn't checked. If the
-    /// option isn't given, this is `None`. `lint` doesn't have this option.
+    /// The value of `--in`: the zone in which times are shown. The value isn't empty, and its form isn't checked. If
+    /// the option isn't given, this is `None`. `lint` doesn't have this option.
     pub shown_in: Option<String>,
     /// The value of `--count`: a number of elapses, from 1 to 1,000,000. `None` if the option isn't given. Only `show`
     /// and `next` have this option.
@@ -63,7 +67,7 @@ pub struct Question {
     pub is_all: bool,
     /// Whether `--strict` is given, so that a warning of `lint`, the only verb with this option, gives status 1.
     pub is_strict: bool,
-    /// Whether to print JSON.
+    /// Whether `--json` is given, so that the answer is printed as JSON.
     pub is_json: bool,
     ghost fits: { fits_verb verb (vec_len targets) ≡ true },
     ghost counted: { ForSome count IsElapseCount },
@@ -72,13 +76,14 @@ pub struct Question {
 
 impl Verb {
     /// All verbs, in the order in which the help lists them.
-    pub(crate) const ALL: [Verb; 6] = [
+    pub(crate) const ALL: [Verb; 7] = [
         Verb::List,
         Verb::Show,
         Verb::Lint,
         Verb::Between,
         Verb::Same,
         Verb::Next,
+        Verb::Due,
     ];
 
     /// Returns the name of the verb. The caller chooses the lifetime, since the prover can't shorten `'static`.
@@ -92,6 +97,7 @@ impl Verb {
             Verb::Between => "between",
             Verb::Same => "same",
             Verb::Next => "next",
+            Verb::Due => "due",
         }
     }
 
@@ -102,15 +108,12 @@ impl Verb {
         find_named(&Verb::ALL, name)
     }
 
-    /// Returns a verb whose name differs from the word by a single edit: a letter is left out, added, replaced, or swapped
-    /// with the next one. Returns `None` if there is no such verb. Fails only if allocation fails.
-    pub fn similar(alloc: Global, word: &str) -> Result<Option<Verb>, AllocError> {
-        for verb in Verb::ALL {
-            if osa_distance(alloc, word, verb.name())? == 1 {
-                return Ok(Some(verb));
-            }
-        }
-        Ok(None)
+    /// Returns a verb whose name differs from the word by a single edit: a letter is left out, added, replaced, or
+    /// swapped with the next one. Returns `None` if there is no such verb. Fails only if allocation fails.
+    pub fn similar(alloc: Global, word: &str) -> Result<Option<Verb>, AllocError>
+        ensures { IfOk result (λ verb. verb ≡ similar_verb word.now) }
+    {
+        find_similar(alloc, &Verb::ALL, word)
     }
 
     /// Returns whether the verb accepts this number of targets.
@@ -122,6 +125,7 @@ impl Verb {
             Verb::Show | Verb::Next => count >= 1,
             Verb::Between => count >= 2,
             Verb::Same => count == 2,
+            Verb::Due => count <= 1,
         }
     }
 }
@@ -130,4 +134,22 @@ fn find_named(verbs: &[Verb], name: &str) -> Option<Verb>
     ensures { result ≡ find (λ verb. bytes_eq (verb_name verb) name.now) verbs.now }
 {
     verbs.iter().copied().find(|verb| verb.name() == name)
+}
+
+fn find_similar(alloc: Global, verbs: &[Verb], word: &str) -> Result<Option<Verb>, AllocError>
+    ensures { IfOk result (λ verb. verb ≡ find (is_similar word.now) verbs.now) }
+{
+    for verb in verbs {
+        if is_similar(alloc, word, *verb)? {
+            return Ok(Some(*verb));
+        }
+    }
+    Ok(None)
+}
+
+#[tactic(auto, unfolding(crate::specs::rules::Verbs::edits_between))]
+fn is_similar(alloc: Global, word: &str, verb: Verb) -> Result<bool, AllocError>
+    ensures { IfOk result (λ is. is ≡ is_similar word.now verb) }
+{
+    Ok(osa_distance(alloc, word, verb.name())? == 1)
 }

@@ -3,7 +3,7 @@
 //! or the version.
 
 ghost use Rattle.std.specs.Prelude.{◌≡◌, ◌++◌, ◌<◌, ◌&&◌, ◌||◌, IfOk, IfSome, length, map, not};
-ghost use Rattle.cal_timers_command.specs.rules.VerbFirst.{asks_help, first_word, is_option, leads, list_first, moved_first, needs_value, verb_first};
+ghost use Rattle.cal_timers_command.specs.rules.VerbFirst.{asks_due, asks_help, first_word, is_option, leads, list_first, moved_first, needs_value, verb_first};
 ghost use Rattle.cal_timers_command.specs.rules.Texts.{texts_of};
 
 use crate::arguments::needs_value;
@@ -29,6 +29,17 @@ pub(crate) fn with_verb_first<'a, S: AsStr>(
         moved_first(alloc, arguments, index)
     } else {
         list_first(alloc, arguments)
+    }
+}
+
+/// Returns whether the verb is `due`, which means that the first argument that is neither an option nor the value of an
+/// option is `due`. If so, every error has the status 255, even one in the arguments.
+pub fn asks_due<S: AsStr>(arguments: &[S]) -> bool
+    ensures { result ≡ asks_due (map S.text arguments.now) }
+{
+    match first_word(arguments) {
+        Some(index) => arguments[index].as_str() == "due",
+        None => false,
     }
 }
 
@@ -106,8 +117,8 @@ fn is_option(argument: &str) -> bool
     argument.starts_with('-') && argument.len() > 1 && argument != "--" && !asks_help(argument)
 }
 
-/// Returns whether `clap` takes the argument for a verb, or for a request for help or the version. It adds the verb
-/// `help` to ours.
+/// Returns whether `clap` takes the argument for a verb, or for a request for help or the version. The verb `help`
+/// isn't in [`Verb::ALL`], since `clap` adds it.
 fn leads(argument: &str) -> bool
     ensures { result ≡ leads argument.now }
 {

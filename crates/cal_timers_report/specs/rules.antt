@@ -2,6 +2,7 @@
 pub mod BetweenText
 pub mod Columns
 pub mod Documents
+pub mod DueText
 pub mod Emphasis
 pub mod JsonParts
 pub mod JsonTimes

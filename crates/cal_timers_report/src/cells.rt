@@ -1,11 +1,11 @@
 //! Parts of lines: text without control characters, and text that is padded or cut to a width.
 
-ghost use Rattle.std.specs.Prelude.{◌≡◌, ◌++◌, OnOk, length, replicate, string_bytes, take, true};
+ghost use Rattle.std.specs.Prelude.{◌≡◌, ◌++◌, OnOk, length, min, replicate, string_bytes, take, true};
 ghost use Rattle.std.specs.Char.{encode_utf8, is_control};
 ghost use Rattle.std.specs.List.{flat_map};
 ghost use Rattle.std.specs.Str.{chars};
 ghost use Rattle.cal_timers_report.specs.rules.Columns.{blanks, cut, padded};
-ghost use Rattle.cal_timers_report.specs.rules.PrintableText.{code_text, printable_text};
+ghost use Rattle.cal_timers_report.specs.rules.PrintableText.{char_width, code_text, printable_text, shown_width};
 
 use std::alloc::AllocError;
 
@@ -34,13 +34,23 @@ fn push_code(out: &mut String, sign: char) -> Result<(), AllocError>
     write!(out, "\\x{code:02x}")
 }
 
-/// Returns the number of characters that [`push_printable`] appends for this text.
-pub fn shown_width(text: &str) -> usize {
+/// Returns the number of characters that [`push_printable`] appends for this text, or `usize::MAX` if there are more.
+#[tactic(auto, unfolding(crate::specs::rules::PrintableText::shown_width))]
+pub fn shown_width(text: &str) -> usize
+    ensures { result ≡ min (shown_width text.now) usize.MAX }
+{
     let mut width: usize = 0;
     for sign in text.chars() {
-        width = width.saturating_add(if sign.is_control() { 4 } else { 1 });
+        width = width.saturating_add(char_width(sign));
     }
     width
+}
+
+/// Returns the number of characters that [`push_printable`] appends for this character.
+fn char_width(sign: char) -> usize
+    ensures { result ≡ char_width sign }
+{
+    if sign.is_control() { 4 } else { 1 }
 }
 
 /// Returns the number of characters in a text.

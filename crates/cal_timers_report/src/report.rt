@@ -1,13 +1,13 @@
-//! The report of a verb: what `calendar-timers` answers, as data. The text for people and the JSON document are made from
-//! the report, the style and the clock, and from nothing else.
+//! The report of a verb: what `calendar-timers` answers, as data. The text for people and the JSON document are made
+//! from it.
 
 use cal_spec::Expr;
 use cal_zone::Instant;
 
-/// A unit in the report of `list`.
+/// A row in the report of the verb `list`: a unit, its next elapse and its notes.
 #[derive(Drop)]
 pub struct ListRow<'a> {
-    /// The name of the unit.
+    /// The name of the unit, or the path of its file.
     pub unit: &'a str,
     /// The next elapse. `None` for a timer that doesn't elapse any more, a masked unit and a unit that fails to load.
     pub next: Option<Instant>,
@@ -24,15 +24,18 @@ pub struct ShownTimer<'a> {
     pub files: Vec<&'a str>,
     pub expressions: Vec<ShownLine<'a>>,
     pub exceptions: Vec<ShownLine<'a>>,
-    /// The other settings that decide when the timer starts a unit, and which unit that is, each as `KEY=VALUE`.
-    pub notes: &'a [String],
+    /// The other settings that decide when the timer starts a unit, and which unit that is, each as `KEY=VALUE`, and
+    /// other notes.
+    pub notes: Vec<&'a str>,
     /// Warnings about expressions that systemd may interpret differently or compute wrongly.
     pub warnings: Vec<String>,
+    /// The last elapse at or before the present.
+    pub last: Option<Instant>,
     /// The next elapses, in order.
     pub elapses: Vec<Instant>,
     /// Local times that the expressions match, and that one of the next clock changes skips or repeats.
     pub clock: Vec<ClockTime<'a>>,
-    /// Whether there are more such local times.
+    /// Whether there are more such local times than those in `clock`.
     pub has_more_clock: bool,
 }
 
@@ -58,10 +61,10 @@ pub struct Place<'a> {
 /// A local time that a clock change skips or repeats.
 #[derive(Clone, Copy)]
 pub struct ClockTime<'a> {
-    /// The local time, in seconds since 1970-01-01 00:00:00 on the same clock.
+    /// The local time, in seconds since 1970-01-01 00:00:00 on the clock of the zone.
     pub local: i64,
-    /// Whether the clock skips the local time. If not, the clock shows it twice, and only the first occurrence can be an
-    /// elapse.
+    /// Whether the clock skips the local time. If not, the clock shows it twice, and only the first occurrence can be
+    /// an elapse.
     pub is_skipped: bool,
     /// The name of the zone on whose clock the local time is, or `None` if this is the local zone.
     pub zone: Option<&'a str>,

@@ -1,6 +1,6 @@
 //! The report of `show` and `next` as text: each timer in detail.
 
-ghost use Rattle.std.specs.Prelude.{◌≡◌, ◌++◌, IfOk, OnOk, codes, map, string_bytes};
+ghost use Rattle.std.specs.Prelude.{◌≡◌, ◌++◌, IfOk, OnOk, codes, map, option_map, string_bytes};
 ghost use Rattle.std.specs.List.{flat_map, join_by};
 ghost use Rattle.cal_timers_report.specs.rules.BetweenText.{instant_width};
 ghost use Rattle.cal_timers_report.specs.rules.Columns.{widest};
@@ -11,6 +11,8 @@ ghost use Rattle.cal_timers_report.specs.rules.ShowText.{
   elapses_or_never,
   in_time,
   labeled,
+  last_line,
+  last_or_never,
   masked_line,
   name_line,
   next_lines,
@@ -21,6 +23,7 @@ ghost use Rattle.cal_timers_report.specs.rules.ShowText.{
   texts_under,
   timer_text,
 };
+ghost use Rattle.cal_timers_report.specs.rules.TimeLeft.{time_ago};
 
 use crate::cells::{LABEL_WIDTH, push_blanks, push_padded, push_printable};
 use crate::clock_lines::push_clock;
@@ -32,9 +35,9 @@ use std::alloc::{AllocError, Global};
 
 /// Returns the text about each timer, with an empty line between two timers, and then a line for each masked unit.
 ///
-/// About a timer there are its name, its files, its expressions and exceptions in normal form, the other settings that
-/// decide when it starts a unit, warnings, its next elapses, and the local times that clock changes skip or repeat. Each
-/// of these has lines of its own. If a timer has no expressions, its next elapses are left out.
+/// The text about a timer has its name, its files, its expressions and exceptions in normal form, the other settings
+/// that decide when it starts a unit, warnings, its last elapse, its next elapses, and the local times that clock
+/// changes skip or repeat. Each of these has lines of its own. If a timer has no expressions, its elapses are left out.
 pub fn show_text(
     alloc: Global,
     zone: Zone<'_>,
@@ -107,6 +110,7 @@ fn push_timer(
     push_name(out, timer.unit, style)?;
     push_settings(alloc, out, timer)?;
     push_texts(out, "  Warning:", timer.warnings.as_slice())?;
+    push_last(out, zone, now, timer.expressions.as_slice(), timer.last)?;
     push_next(
         out,
         zone,
@@ -131,23 +135,24 @@ fn push_name(out: &mut String, name: &str, style: Style) -> Result<(), AllocErro
 fn push_settings(alloc: Global, out: &mut String, timer: &ShownTimer<'_>) -> Result<(), AllocError>
     ensures { OnOk result (string_bytes out.new ≡ string_bytes out.old ++ settings_lines (timer_seen timer.now)) }
 {
-    push_files(out, timer.files.as_slice())?;
+    push_strs(out, "  File:", timer.files.as_slice())?;
     push_lines(alloc, out, "  Calendar:", timer.expressions.as_slice())?;
     push_lines(alloc, out, "  Except:", timer.exceptions.as_slice())?;
-    push_texts(out, "  Also:", timer.notes)
+    push_strs(out, "  Also:", timer.notes.as_slice())
 }
 
+/// Appends a line for each text, the first one with a label.
 #[tactic(auto, unfolding(crate::specs::rules::ShowText::texts_under))]
-fn push_files(out: &mut String, files: &[&str]) -> Result<(), AllocError>
+fn push_strs(out: &mut String, label: &str, texts: &[&str]) -> Result<(), AllocError>
     ensures { OnOk result (string_bytes out.new
-        ≡ string_bytes out.old ++ texts_under (codes "  File:") (map (λ file. file.now) files.now)) }
+        ≡ string_bytes out.old ++ texts_under label.now (map (λ text. text.now) texts.now)) }
 {
-    let Some((first, others)) = files.split_first() else {
+    let Some((first, others)) = texts.split_first() else {
         return Ok(());
     };
-    push_labeled(out, "  File:", first)?;
-    for file in others {
-        push_labeled(out, "", file)?;
+    push_labeled(out, label, first)?;
+    for text in others {
+        push_labeled(out, "", text)?;
     }
     Ok(())
 }
@@ -186,7 +191,7 @@ fn push_line(
     push_labeled(out, label, normal.as_str())
 }
 
-/// Appends a line for each text, the first one with a label.
+/// Appends lines like [`push_strs`].
 #[tactic(auto, unfolding(crate::specs::rules::ShowText::texts_under))]
 fn push_texts(out: &mut String, label: &str, texts: &[String]) -> Result<(), AllocError>
     ensures { OnOk result (string_bytes out.new
@@ -210,6 +215,55 @@ fn push_labeled(out: &mut String, label: &str, text: &str) -> Result<(), AllocEr
     push_padded(out, label, LABEL_WIDTH)?;
     push_printable(out, text)?;
     out.push('\n')
+}
+
+/// Appends the last elapse. If the timer has no expressions, appends nothing.
+#[tactic(auto, unfolding(crate::specs::rules::ShowText::last_line))]
+fn push_last(
+    out: &mut String,
+    zone: Zone<'_>,
+    now: Instant,
+    expressions: &[ShownLine<'_>],
+    last: Option<Instant>,
+) -> Result<(), AllocError>
+    ensures { OnOk result (string_bytes out.new
+        ≡ string_bytes out.old ++ last_line zone.entry now.secs (map line_seen expressions.now) (option_map (λ instant. instant.secs) last)) }
+{
+    if expressions.is_empty() {
+        return Ok(());
+    }
+    push_last_or_never(out, zone, now, last)
+}
+
+fn push_last_or_never(
+    out: &mut String,
+    zone: Zone<'_>,
+    now: Instant,
+    last: Option<Instant>,
+) -> Result<(), AllocError>
+    ensures { OnOk result (string_bytes out.new
+        ≡ string_bytes out.old ++ last_or_never zone.entry now.secs (option_map (λ instant. instant.secs) last)) }
+{
+    push_padded(out, "  Last:", LABEL_WIDTH)?;
+    let Some(instant) = last else {
+        return out.push_str("never\n");
+    };
+    push_instant(out, &mut InstantFormatter::new(zone), instant)?;
+    out.push_str("  ")?;
+    push_ago(out, now, instant)?;
+    out.push('\n')
+}
+
+/// Appends how long ago an instant was: the two largest units of the time span, before the word `ago`. If `then` isn't
+/// before `now`, appends `now`.
+fn push_ago(out: &mut String, now: Instant, then: Instant) -> Result<(), AllocError>
+    ensures { OnOk result (string_bytes out.new ≡ string_bytes out.old ++ time_ago now.secs then.secs) }
+{
+    if now.secs() <= then.secs() {
+        return out.push_str("now");
+    }
+    push_left(out, then, now)?;
+    out.push_str(" ago")
 }
 
 /// Appends the next elapses. If the timer has no expressions, appends nothing.

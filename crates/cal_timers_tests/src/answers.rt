@@ -1,5 +1,5 @@
-//! Tests of `answer_arguments`: an answer of each verb as text and as JSON, in which every function on the way has to succeed, and
-//! the error lines about what can't be read, which a transcript can't show if its user may read everything.
+//! Tests of `answer_arguments`: an answer of each verb as text and as JSON, and the error lines about what can't be
+//! read, which a transcript can't show if its user may read everything.
 
 use crate::memory::{Item, Memory};
 use cal_answers::answer_arguments;
@@ -15,8 +15,8 @@ const STYLE: Style = Style {
     is_bold: true,
 };
 
-/// Returns what is printed for arguments, which `line` separates by `|`: standard output and after it standard error. The
-/// present is Mon 2024-01-01 00:00:00 UTC.
+/// Returns what is printed for the arguments in `line`, which are separated by `|`: standard output and after it
+/// standard error. The present is Mon 2024-01-01 00:00:00 UTC.
 fn answer(alloc: Global, items: &[(&str, Item<'_>)], line: &str) -> Result<Vec<u8>, Fail> {
     let arguments: Vec<&str> = line.split('|').collect(alloc)?;
     let mut out = Port::new(Vec::new(alloc));
@@ -44,8 +44,9 @@ fn expect(
     ensure(found.as_slice() == expected.as_bytes(), line)
 }
 
-/// Arguments, and what is printed on a machine with a unit that has an alias and drop-ins, and with two other files.
-static ANSWERS: [(&str, &str); 14] = [
+/// Arguments, and what is printed for them on the machine in `answers`: it has a unit with an alias and drop-ins, two
+/// other units, and two timer files that aren't units.
+static ANSWERS: [(&str, &str); 17] = [
     (
         "list",
         "\x1b[1mNEXT                            LEFT  UNIT     NOTES\x1b[0m
@@ -84,6 +85,7 @@ Mon 2024-01-01 02:00:00 +01:00  1h    notes.timer  disabled
              *-*-* 12:00:00 Test/Fixed
   Except:    Tue *-*-* 18:00:00
   Also:      RandomizedDelaySec=1h
+  Last:      Sun 2023-12-31 12:00:00 +01:00  13h ago
   Next:      Mon 2024-01-01 12:00:00 +01:00  in 11h
              Mon 2024-01-01 18:00:00 +01:00  in 17h
 ",
@@ -92,6 +94,7 @@ Mon 2024-01-01 02:00:00 +01:00  1h    notes.timer  disabled
         "next|-n|1|daily",
         "\x1b[1mdaily\x1b[0m
   Calendar:  *-*-* 00:00:00
+  Last:      Mon 2024-01-01 00:00:00 +01:00  1h ago
   Next:      Tue 2024-01-02 00:00:00 +01:00  in 23h
 ",
     ),
@@ -110,6 +113,11 @@ Mon 2024-01-01 02:00:00 +01:00  1h    notes.timer  disabled
       }
     ],
     "exceptions": [],
+    "last": {
+      "local": "Mon 2001-01-01 00:00:00 +01:00",
+      "unix": 978303600,
+      "ago": "22y 11month 4w 1d 17h 30min"
+    },
     "elapses": [],
     "notes": [],
     "warnings": [],
@@ -143,6 +151,23 @@ only a.timer has RandomizedDelaySec=1h
     (
         "same|--json|2024-02-03|2024-2-3",
         "{\n  \"same\": true,\n  \"only\": [],\n  \"settings\": []\n}\n",
+    ),
+    ("due|b", ""),
+    (
+        "due|a|--now=@1704214800",
+        "a.timer: not due: Tue 2024-01-02 18:00:00 +01:00 is an exception\n",
+    ),
+    (
+        "due|--json|a|--now=@1704214800",
+        r#"{
+  "unit": "a.timer",
+  "due": false,
+  "elapse": {
+    "local": "Tue 2024-01-02 18:00:00 +01:00",
+    "unix": 1704214800
+  }
+}
+"#,
     ),
     (
         "lint|/t/wrong.timer",
@@ -251,12 +276,12 @@ fn answers(rt: HostRuntime) -> Result<(), Fail> {
     Ok(())
 }
 
-/// What is at a path, arguments, and what is printed on a machine that has this besides a unit with an alias, and
-/// besides a file that names a zone.
+/// A path, what is at this path, arguments, and what is printed for them. The machine also has a unit with an alias,
+/// and two timer files, one of which names a zone.
 type Row = (&'static str, Item<'static>, &'static str, &'static str);
 
-static UNREADABLE: [Row; 14] = [
-    // A drop-in, or a folder of drop-ins, is missing from its unit, and nothing else is.
+static UNREADABLE: [Row; 16] = [
+    // A drop-in, or a folder of drop-ins, that can't be read is missing from its unit, and nothing else is.
     (
         "/etc/systemd/system/a.timer.d",
         Item::Closed,
@@ -296,8 +321,8 @@ only a.timer has OnStartupSec=1min
         "lint|a|b",
         "/etc/systemd/system/timer.d/x.conf: cannot be read\n",
     ),
-    // What can't be read of the search path has one line, whatever the question is. The unit is found in another folder,
-    // and so are its alias and the drop-in of this alias.
+    // Each part of the search path that can't be read has one error line, for every verb. The unit is found in another
+    // folder, and so are its alias and the drop-in of this alias.
     (
         "/etc/systemd/system",
         Item::Closed,
@@ -340,12 +365,25 @@ only a.timer has OnStartupSec=1min
         "lint",
         "/etc/systemd/system/timers.target.wants: cannot be read\n",
     ),
-    // The unit's own file.
+    // The unit's own file can't be read.
     (
         "/etc/systemd/system/a.timer",
         Item::Locked,
         "show|a|--utc",
         "/etc/systemd/system/a.timer: cannot be read\n",
+    ),
+    (
+        "/etc/systemd/system/a.timer",
+        Item::Locked,
+        "due|a|--utc",
+        "/etc/systemd/system/a.timer: cannot be read\n",
+    ),
+    // If there is no zone file, `due` doesn't warn about it, since any error line would make the service fail.
+    (
+        "/etc/localtime",
+        Item::Hidden,
+        "due|/t/boot.timer",
+        "/t/boot.timer: not due: no elapse so far\n",
     ),
     (
         "/t/locked.timer",
@@ -410,8 +448,8 @@ fn what_cannot_be_read(rt: HostRuntime) -> Result<(), Fail> {
     Ok(())
 }
 
-/// The status, standard output and standard error of `next daily` if only the first `limit` bytes of standard output can
-/// be written.
+/// How many bytes of standard output can be written, and the status, standard output and standard error of `next daily`
+/// in this case.
 type Cut = (usize, u8, &'static str, &'static str);
 
 static CUTS: [Cut; 3] = [
@@ -422,6 +460,7 @@ static CUTS: [Cut; 3] = [
         0,
         "\x1b[1mdaily\x1b[0m
   Calendar:  *-*-* 00:00:00
+  Last:      Mon 2024-01-01 00:00:00 UTC  now
   Next:      Tue 2024-01-02 00:00:00 UTC  in 1d
 ",
         "",

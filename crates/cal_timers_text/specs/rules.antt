@@ -1,3 +1,6 @@
 -- What the manuals and this project's own rules say. The laws and the contracts of this crate cite these definitions.
+pub mod ErrorLines
 pub mod FlawWords
+pub mod LintText
+pub mod Messages
 pub mod Warnings

@@ -1,5 +1,9 @@
 //! The output of `lint`: problems of timers, with the lines of the files that have them.
 
+ghost use Rattle.std.specs.Prelude.{◌≡◌, ◌++◌, IfOk, OnOk, string_bytes};
+ghost use Rattle.std.specs.Option.{option_map};
+ghost use Rattle.cal_timers_text.specs.rules.LintText.{after_file, caret_line, caret_lines, counted, counts_end, counts_line, counts_separator, excerpt, finding_lines, finding_place, is_in_value, key_of, kind_text, physical_line, problem_line, suggestion_line, word_at_fault, word_from};
+
 use crate::messages::push_message;
 use cal_bytes::{first_word, trim_blanks_end};
 use cal_lint::{Finding, Problem, ProblemKind};
@@ -19,13 +23,16 @@ pub struct ProblemCounts {
 /// The first line has the path, the line number, the column and the message. Below it are the line of the file, a caret
 /// below the word at this column, and what to write instead, if that is known. There is no caret if the problem is in a
 /// value that continues on the next line.
+#[tactic(auto, unfolding(crate::specs::rules::LintText::finding_lines))]
 pub fn finding_text(
     alloc: Global,
     path: &str,
     text: &str,
     finding: &Finding,
     style: Style,
-) -> Result<String, AllocError> {
+) -> Result<String, AllocError>
+    ensures { IfOk result (λ lines. string_bytes lines ≡ finding_lines style path.now text.now finding.now) }
+{
     let mut out = String::new(alloc);
     push_place(&mut out, path, finding.line, finding.column)?;
     push_kind(&mut out, finding.kind, style)?;
@@ -35,8 +42,9 @@ pub fn finding_text(
     Ok(out)
 }
 
-/// Returns the line about a problem that has no column, or not even a line. `file` is the path of the file, or the name of
-/// the timer if the problem has no line.
+/// Returns the line about a problem that has no column, or not even a line. `file` is the path of the file, or the name
+/// of the timer if the problem has no line.
+#[tactic(auto, unfolding(crate::specs::rules::LintText::problem_line))]
 pub fn problem_text(
     alloc: Global,
     file: &str,
@@ -44,36 +52,69 @@ pub fn problem_text(
     kind: ProblemKind,
     message: &str,
     style: Style,
-) -> Result<String, AllocError> {
+) -> Result<String, AllocError>
+    ensures { IfOk result (λ text. string_bytes text ≡ problem_line style file.now line kind message.now) }
+{
     let mut out = String::new(alloc);
     push_printable(&mut out, file)?;
-    match line {
-        Some(line) => write!(out, ":{line}: "),
-        None => out.push_str(": "),
-    }?;
+    push_line_number(&mut out, line)?;
     push_kind(&mut out, kind, style)?;
     out.push_str(message)?;
     out.push('\n')?;
     Ok(out)
 }
 
-/// Appends a line with the numbers of errors and warnings, such as `1 error, 2 warnings`. A number that is 0 is left out,
-/// and nothing is appended if both are.
-pub fn push_counts(out: &mut String, counts: ProblemCounts) -> Result<(), AllocError> {
-    let ProblemCounts { errors, warnings } = counts;
-    push_count(out, errors, "error")?;
-    if errors > 0 && warnings > 0 {
-        out.push_str(", ")?;
+/// Appends the number of a line, if there is one, and what separates it from the message.
+fn push_line_number(out: &mut String, line: Option<u32>) -> Result<(), AllocError>
+    ensures { OnOk result (string_bytes out.new ≡ string_bytes out.old ++ after_file line) }
+{
+    match line {
+        Some(line) => write!(out, ":{line}: "),
+        None => out.push_str(": "),
     }
-    push_count(out, warnings, "warning")?;
-    if errors > 0 || warnings > 0 {
-        out.push('\n')?;
+}
+
+/// Appends a line with the numbers of errors and warnings, such as `1 error, 2 warnings`. A number that is 0 is left
+/// out, and nothing is appended if both are.
+#[tactic(auto, unfolding(crate::specs::rules::LintText::counts_line))]
+pub fn push_counts(out: &mut String, counts: ProblemCounts) -> Result<(), AllocError>
+    ensures { OnOk result (string_bytes out.new ≡ string_bytes out.old ++ counts_line counts.errors counts.warnings) }
+{
+    push_count(out, counts.errors, "error")?;
+    push_separator(out, counts)?;
+    push_count(out, counts.warnings, "warning")?;
+    push_line_end(out, counts)
+}
+
+/// Appends what separates the two numbers, or nothing if one of them is 0.
+fn push_separator(out: &mut String, counts: ProblemCounts) -> Result<(), AllocError>
+    ensures { OnOk result (string_bytes out.new
+        ≡ string_bytes out.old ++ counts_separator counts.errors counts.warnings) }
+{
+    if counts.errors > 0 && counts.warnings > 0 {
+        out.push_str(", ")
+    } else {
+        Ok(())
     }
-    Ok(())
+}
+
+/// Appends a line feed, or nothing if both numbers are 0.
+fn push_line_end(out: &mut String, counts: ProblemCounts) -> Result<(), AllocError>
+    ensures { OnOk result (string_bytes out.new
+        ≡ string_bytes out.old ++ counts_end counts.errors counts.warnings) }
+{
+    if counts.errors > 0 || counts.warnings > 0 {
+        out.push('\n')
+    } else {
+        Ok(())
+    }
 }
 
 /// Appends a number and a noun in the form for this number, or nothing if the number is 0.
-fn push_count(out: &mut String, count: usize, noun: &str) -> Result<(), AllocError> {
+#[tactic(auto, unfolding(crate::specs::rules::LintText::counted))]
+fn push_count(out: &mut String, count: usize, noun: &str) -> Result<(), AllocError>
+    ensures { OnOk result (string_bytes out.new ≡ string_bytes out.old ++ counted count noun.now) }
+{
     match count {
         0 => Ok(()),
         1 => write!(out, "1 {noun}"),
@@ -82,12 +123,18 @@ fn push_count(out: &mut String, count: usize, noun: &str) -> Result<(), AllocErr
 }
 
 /// Appends a path, the number of a line and a column, each with a colon after it, and a blank.
-fn push_place(out: &mut String, path: &str, line: u32, column: u32) -> Result<(), AllocError> {
+#[tactic(auto, unfolding(crate::specs::rules::LintText::finding_place))]
+fn push_place(out: &mut String, path: &str, line: u32, column: u32) -> Result<(), AllocError>
+    ensures { OnOk result (string_bytes out.new ≡ string_bytes out.old ++ finding_place path.now line column) }
+{
     push_printable(out, path)?;
     write!(out, ":{line}:{column}: ")
 }
 
-fn push_kind(out: &mut String, kind: ProblemKind, style: Style) -> Result<(), AllocError> {
+#[tactic(auto, unfolding(crate::specs::rules::LintText::kind_text))]
+fn push_kind(out: &mut String, kind: ProblemKind, style: Style) -> Result<(), AllocError>
+    ensures { OnOk result (string_bytes out.new ≡ string_bytes out.old ++ kind_text style kind) }
+{
     match kind {
         ProblemKind::Error => {
             style.begin(out, Emphasis::Error)?;
@@ -101,28 +148,45 @@ fn push_kind(out: &mut String, kind: ProblemKind, style: Style) -> Result<(), Al
 
 /// Appends the line of the file that has the problem, a line with a caret if the column of the problem is known, and a
 /// line with what to write instead if that is known.
-fn push_excerpt(out: &mut String, text: &str, finding: &Finding) -> Result<(), AllocError> {
+#[tactic(auto, unfolding(crate::specs::rules::LintText::excerpt))]
+fn push_excerpt(out: &mut String, text: &str, finding: &Finding) -> Result<(), AllocError>
+    ensures { OnOk result (string_bytes out.new ≡ string_bytes out.old ++ excerpt text.now finding.now) }
+{
     let line = physical_line(text, finding.line);
     push_printable(out, line)?;
     out.push('\n')?;
-    if let Some((before, word)) = word_at_fault(line, finding) {
-        push_caret(out, before, word)?;
-    }
+    push_word_mark(out, line, finding)?;
     match &finding.suggestion {
         Some(suggestion) => push_suggestion(out, suggestion.as_str()),
         None => Ok(()),
     }
 }
 
-fn push_suggestion(out: &mut String, suggestion: &str) -> Result<(), AllocError> {
+fn push_suggestion(out: &mut String, suggestion: &str) -> Result<(), AllocError>
+    ensures { OnOk result (string_bytes out.new ≡ string_bytes out.old ++ suggestion_line suggestion.now) }
+{
     out.push_str("  write instead: ")?;
     push_printable(out, suggestion)?;
     out.push('\n')
 }
 
+/// Appends a line with a caret below the word at fault in a line of the file, or nothing if the column isn't known.
+fn push_word_mark(out: &mut String, line: &str, finding: &Finding) -> Result<(), AllocError>
+    ensures { OnOk result (string_bytes out.new
+        ≡ string_bytes out.old ++ caret_lines (word_at_fault line.now finding.now)) }
+{
+    match word_at_fault(line, finding) {
+        Some((before, word)) => push_caret(out, before, word),
+        None => Ok(()),
+    }
+}
+
 /// Appends a line with `^` below the first character of the word, and `~` below its other characters. `before` is the
 /// text before the word.
-fn push_caret(out: &mut String, before: &str, word: &str) -> Result<(), AllocError> {
+#[tactic(auto, unfolding(crate::specs::rules::LintText::caret_line))]
+fn push_caret(out: &mut String, before: &str, word: &str) -> Result<(), AllocError>
+    ensures { OnOk result (string_bytes out.new ≡ string_bytes out.old ++ caret_line before.now word.now) }
+{
     push_blanks(out, shown_width(before))?;
     out.push('^')?;
     push_times(out, '~', shown_width(word).saturating_sub(1))?;
@@ -130,7 +194,10 @@ fn push_caret(out: &mut String, before: &str, word: &str) -> Result<(), AllocErr
 }
 
 /// Returns the physical line with this number, counted from 1, or an empty text if there is no such line.
-fn physical_line(text: &str, number: u32) -> &str {
+#[tactic(auto, unfolding(crate::specs::rules::LintText::physical_line))]
+fn physical_line(text: &str, number: u32) -> &str
+    ensures { result.now ≡ physical_line text.now number }
+{
     without_mark(text)
         .lines()
         .nth((number as usize).saturating_sub(1))
@@ -140,24 +207,38 @@ fn physical_line(text: &str, number: u32) -> &str {
 /// Returns the text before the word at the column of the problem, and the word. If the problem isn't in a value, the
 /// word is the key, or the whole line if it has none. Returns `None` if the column isn't known, because the value
 /// continues on the next line, or if the line doesn't have this column.
-fn word_at_fault<'t>(line: &'t str, finding: &Finding) -> Option<(&'t str, &'t str)> {
-    let is_in_value = is_in_value(finding.problem);
-    if finding.column <= 1 && is_in_value {
+#[tactic(auto, unfolding(crate::specs::rules::LintText::word_at_fault))]
+fn word_at_fault<'t>(line: &'t str, finding: &Finding) -> Option<(&'t str, &'t str)>
+    ensures { option_map (λ fault. (fault.0.now, fault.1.now)) result ≡ word_at_fault line.now finding.now }
+{
+    if is_in_value(finding.problem) && finding.column <= 1 {
         return None;
     }
-    let (before, after) = line.split_at_checked((finding.column as usize).saturating_sub(1))?;
-    if !is_in_value {
-        Some((before, key_of(after)))
-    } else {
-        Some((before, first_word(after).map_or("", |(word, _)| word)))
+    let parts = line.split_at_checked((finding.column as usize).saturating_sub(1))?;
+    Some((parts.0, word_from(finding.problem, parts.1)))
+}
+
+/// Returns the first word of a value, or the key of a setting, if the problem isn't in the value.
+fn word_from(problem: Problem, after: &str) -> &str
+    ensures { result.now ≡ word_from problem after.now }
+{
+    if !is_in_value(problem) {
+        return key_of(after);
+    }
+    match first_word(after) {
+        Some((word, _)) => word,
+        None => "",
     }
 }
 
 /// Returns whether a problem is in the value of a setting.
-fn is_in_value(problem: Problem) -> bool {
+fn is_in_value(problem: Problem) -> bool
+    ensures { result ≡ is_in_value problem }
+{
     matches!(
         problem,
         Problem::Invalid(_)
+            | Problem::NoInstanceFits
             | Problem::Rejected(_)
             | Problem::Doubtful(_)
             | Problem::BadUnitName
@@ -168,7 +249,10 @@ fn is_in_value(problem: Problem) -> bool {
 
 /// Returns the key of a setting, without blanks at its end: the text before the first `=`, or all of the text if it has
 /// no `=`.
-fn key_of(setting: &str) -> &str {
+#[tactic(auto, unfolding(crate::specs::rules::LintText::key_of))]
+fn key_of(setting: &str) -> &str
+    ensures { result.now ≡ key_of setting.now }
+{
     match setting.split_once('=') {
         Some((key, _)) => trim_blanks_end(key),
         None => trim_blanks_end(setting),

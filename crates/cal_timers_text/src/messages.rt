@@ -1,7 +1,8 @@
-//! Messages about the settings of a timer.
+//! Messages about the lines and the settings in a timer's files, and about the unit that the timer starts.
 
-ghost use Rattle.std.specs.Prelude.{◌≡◌};
+ghost use Rattle.std.specs.Prelude.{◌≡◌, ◌++◌, IfOk, OnOk, codes, string_bytes};
 ghost use Rattle.cal_timers_text.specs.rules.FlawWords.{flaw_words, loss_words};
+ghost use Rattle.cal_timers_text.specs.rules.Messages.{doubt_words, finding_message, idle_message, ignored_setting_message, invalid_message, missing_unit_message, mistake_words, reason_of, rejection_words, section_name, start_of, value_words};
 
 use cal_lint::{Doubt, Mistake, OpenStepFlaw, Problem, Rejection, Section};
 use cal_load::WhyIgnored;
@@ -21,18 +22,23 @@ pub fn message_of(
     alloc: Global,
     problem: Problem,
     mistake: Option<Mistake>,
-) -> Result<String, AllocError> {
+) -> Result<String, AllocError>
+    ensures { IfOk result (λ message. string_bytes message ≡ finding_message problem mistake) }
+{
     let mut message = String::new(alloc);
     push_message(&mut message, problem, mistake)?;
     Ok(message)
 }
 
 /// Appends the message that [`message_of`] returns.
+#[tactic(auto, unfolding(crate::specs::rules::Messages::finding_message))]
 pub(crate) fn push_message(
     out: &mut String,
     problem: Problem,
     mistake: Option<Mistake>,
-) -> Result<(), AllocError> {
+) -> Result<(), AllocError>
+    ensures { OnOk result (string_bytes out.new ≡ string_bytes out.old ++ finding_message problem mistake) }
+{
     match problem {
         Problem::Invalid(fault) => push_invalid(out, fault, mistake),
         Problem::UnknownKey(section) => push_unknown_key(out, section),
@@ -58,16 +64,24 @@ pub(crate) fn push_message(
             out.push_str(", so systemd ignores the line")
         }
         Problem::OpenStep(flaw) => out.push_str(flaw_words(flaw)),
+        Problem::NoInstanceFits => {
+            out.push_str("invalid expression: not valid for any usual instance")
+        }
     }
 }
 
-fn push_unknown_key(out: &mut String, section: Section) -> Result<(), AllocError> {
+fn push_unknown_key(out: &mut String, section: Section) -> Result<(), AllocError>
+    ensures { OnOk result (string_bytes out.new ≡ string_bytes out.old ++ (codes "unknown key in section [" ++ (section_name section ++ codes "]"))) }
+{
     out.push_str("unknown key in section [")?;
     out.push_str(section_name(section))?;
     out.push(']')
 }
 
-fn section_name(section: Section) -> &'static str {
+#[tactic(auto, unfolding(crate::specs::rules::Messages::section_name))]
+fn section_name(section: Section) -> &'static str
+    ensures { result.now ≡ section_name section }
+{
     match section {
         Section::Unit => "Unit",
         Section::Timer => "Timer",
@@ -112,7 +126,10 @@ fn loss_words(field: Field) -> &'static str
 }
 
 /// Returns what is wrong with a value that systemd doesn't take for a setting of this kind, as the start of a message.
-fn value_words(kind: SettingKind) -> &'static str {
+#[tactic(auto, unfolding(crate::specs::rules::Messages::value_words))]
+fn value_words(kind: SettingKind) -> &'static str
+    ensures { result.now ≡ value_words kind }
+{
     match kind {
         SettingKind::Monotonic | SettingKind::Delay | SettingKind::Accuracy => "not a time span",
         SettingKind::Change | SettingKind::Switch | SettingKind::Flag => "not a boolean",
@@ -124,23 +141,38 @@ fn push_invalid(
     out: &mut String,
     fault: TimerFault,
     mistake: Option<Mistake>,
-) -> Result<(), AllocError> {
-    if matches!(fault, TimerFault::BadLine(_, _)) {
-        out.push_str(INVALID_EXPRESSION)?;
-    }
+) -> Result<(), AllocError>
+    ensures { OnOk result (string_bytes out.new ≡ string_bytes out.old ++ (start_of fault ++ reason_of fault mistake)) }
+{
+    push_start(out, fault)?;
     match mistake {
         Some(mistake) => out.push_str(mistake_words(mistake)),
         None => out.push_str(fault.words()),
     }
 }
 
+/// Appends the start of the message about an error: nothing, unless an expression is invalid.
+fn push_start(out: &mut String, fault: TimerFault) -> Result<(), AllocError>
+    ensures { OnOk result (string_bytes out.new ≡ string_bytes out.old ++ start_of fault) }
+{
+    match fault {
+        TimerFault::BadLine(_, _) => out.push_str(INVALID_EXPRESSION),
+        _ => Ok(()),
+    }
+}
+
 /// Returns the message that an expression is invalid, for this reason.
-pub fn invalid_words(alloc: Global, why: &str) -> Result<String, AllocError> {
+pub fn invalid_words(alloc: Global, why: &str) -> Result<String, AllocError>
+    ensures { IfOk result (λ message. string_bytes message ≡ invalid_message why.now) }
+{
     format!(in alloc; "{INVALID_EXPRESSION}{why}")
 }
 
 /// Returns what an invalid expression looks like, or what is wrong with it, as the end of a message.
-pub fn mistake_words(mistake: Mistake) -> &'static str {
+#[tactic(auto, unfolding(crate::specs::rules::Messages::mistake_words))]
+pub fn mistake_words(mistake: Mistake) -> &'static str
+    ensures { result.now ≡ mistake_words mistake }
+{
     match mistake {
         Mistake::Assignment => "a setting, not only its value",
         Mistake::Comment => "a comment has to be on a line of its own",
@@ -158,7 +190,10 @@ pub fn mistake_words(mistake: Mistake) -> &'static str {
 }
 
 /// Returns what systemd 252 doesn't accept, as the end of a message.
-fn rejection_words(rejection: Rejection) -> &'static str {
+#[tactic(auto, unfolding(crate::specs::rules::Messages::rejection_words))]
+fn rejection_words(rejection: Rejection) -> &'static str
+    ensures { result.now ≡ rejection_words rejection }
+{
     match rejection {
         Rejection::Tab => "tabs in an expression",
         Rejection::Blanks => "spaces at the start or the end of an expression, or two in a row",
@@ -171,7 +206,10 @@ fn rejection_words(rejection: Rejection) -> &'static str {
     }
 }
 
-fn doubt_words(doubt: Doubt) -> &'static str {
+#[tactic(auto, unfolding(crate::specs::rules::Messages::doubt_words))]
+fn doubt_words(doubt: Doubt) -> &'static str
+    ensures { result.now ≡ doubt_words doubt }
+{
     match doubt {
         Doubt::HourRange => "this is an hour and a range of minutes, not a range of times",
         Doubt::HourList => "this is an hour and a list of minutes, not a list of times",
@@ -183,7 +221,10 @@ fn doubt_words(doubt: Doubt) -> &'static str {
 }
 
 /// Returns the message about a setting that systemd ignores in a timer.
-pub fn ignored_setting_words(alloc: Global, why: WhyIgnored) -> Result<String, AllocError> {
+#[tactic(auto, unfolding(crate::specs::rules::Messages::ignored_setting_message))]
+pub fn ignored_setting_words(alloc: Global, why: WhyIgnored) -> Result<String, AllocError>
+    ensures { IfOk result (λ message. string_bytes message ≡ ignored_setting_message why) }
+{
     match why {
         WhyIgnored::BadValue(kind) => {
             let words = value_words(kind);
@@ -202,18 +243,26 @@ pub fn ignored_setting_words(alloc: Global, why: WhyIgnored) -> Result<String, A
     }
 }
 
-/// Returns the message about a timer that starts a unit with this name if there is no such unit.
-pub fn missing_unit_words(alloc: Global, unit: &str) -> Result<String, AllocError> {
+/// Returns the message about a timer that starts the unit with this name, if this unit has no file in the search path.
+#[tactic(auto, unfolding(crate::specs::rules::Messages::missing_unit_message))]
+pub fn missing_unit_words(alloc: Global, unit: &str) -> Result<String, AllocError>
+    ensures { IfOk result (λ message. string_bytes message ≡ missing_unit_message unit.now) }
+{
     let mut out = String::new(alloc);
     push_printable(&mut out, unit)?;
     out.push_str(" has no file in the search path, so systemd refuses to start the timer")?;
     Ok(out)
 }
 
-/// Returns the message about an expression or an exception that has no effect.
-pub fn idle_words(kind: IdleKind) -> &'static str {
+/// Returns the message about an expression that never elapses, an expression for which systemd 252 fails before a
+/// midnight that clocks skip, or an exception that suppresses nothing.
+#[tactic(auto, unfolding(crate::specs::rules::Messages::idle_message))]
+pub fn idle_words(kind: IdleKind) -> &'static str
+    ensures { result.now ≡ idle_message kind }
+{
     match kind {
         IdleKind::NeverElapses => "the expression never elapses",
+        IdleKind::StopsAtMidnight => flaw_words(OpenStepFlaw::FailsAtMidnightChanges),
         IdleKind::SuppressesNothing => "the exception suppresses none of the next 10,000 elapses",
     }
 }

@@ -2,12 +2,14 @@
 
 ghost use Rattle.std.specs.Prelude.{◌≡◌, ◌++◌, IfOk, OnOk, map, option_copied, string_bytes};
 ghost use Rattle.cal_load.specs.rules.Loaded.{expressions_in};
+ghost use Rattle.cal_tasks.specs.rules.LoadedElapses.{setting_for};
 ghost use Rattle.cal_timer.specs.rules.TimerView.{shown};
-ghost use Rattle.cal_timers_text.specs.rules.Warnings.{abbreviation_warning, flaw_warnings, warnings_in, warnings_on, zone_warnings};
+ghost use Rattle.cal_timers_text.specs.rules.Warnings.{abbreviation_warning, flaw_warnings, midnight_flaw, warnings_in, warnings_on, zone_warnings};
 
 use crate::messages::flaw_words;
 use cal_lint::{OpenStepFlaw, looks_like_abbreviation, open_step_flaw, reported_flaw};
 use cal_load::LoadedTimer;
+use cal_tasks::{Clocked, stops_at_midnight};
 use cal_timer::TimerLine;
 use std::alloc::{AllocError, Global};
 
@@ -15,28 +17,37 @@ use std::alloc::{AllocError, Global};
 const ABBREVIATION: &str =
     " is an abbreviation, which systemd may take for winter time or summer time only; write the name of a zone, such as Europe/Berlin";
 
-/// Returns warnings about the calendar expressions of the timer, in order. An expression has a warning if its zone looks
-/// like an abbreviation: systemd takes `CET` for winter time only, if it is an abbreviation of the machine's own zone.
-/// It has another one if systemd 252 computes its elapses wrongly because of a step without an end ([`reported_flaw`]).
-/// Fails only if allocation fails.
-pub fn warnings_of(alloc: Global, timer: &LoadedTimer) -> Result<Vec<String>, AllocError>
-    ensures { IfOk result (λ found. map string_bytes found.items ≡ warnings_in (expressions_in timer.now.calendar)) }
+/// Returns warnings about the calendar expressions of the timer, in order. An expression has a warning if its zone
+/// looks like an abbreviation: systemd takes `CET` for winter time only, if it is an abbreviation of the machine's own
+/// zone. It also has a warning if systemd 252 computes its elapses wrongly because of a step without an end
+/// ([`reported_flaw`]), and one if systemd 252 fails because clocks in its zone skip a midnight of the next three years
+/// ([`stops_at_midnight`]). Fails only if allocation fails.
+pub fn warnings_of(
+    alloc: Global,
+    at: Clocked<'_>,
+    timer: &LoadedTimer,
+) -> Result<Vec<String>, AllocError>
+    ensures { IfOk result (λ found. map string_bytes found.items
+        ≡ warnings_in (setting_for at.entry timer.now) at.entry.now.secs (expressions_in timer.now.calendar)) }
 {
     let mut warnings = Vec::new(alloc);
-    push_warnings(alloc, &mut warnings, timer.lines())?;
+    push_warnings(alloc, &mut warnings, at, timer, timer.lines())?;
     Ok(warnings)
 }
 
+/// Appends the warnings about these lines of the timer.
 fn push_warnings(
     alloc: Global,
     warnings: &mut Vec<String>,
+    at: Clocked<'_>,
+    timer: &LoadedTimer,
     lines: &[TimerLine],
 ) -> Result<(), AllocError>
     ensures { OnOk result (map string_bytes warnings.new.items
-        ≡ map string_bytes warnings.old.items ++ warnings_in (map shown lines.now)) }
+        ≡ map string_bytes warnings.old.items ++ warnings_in (setting_for at.entry timer.now) at.entry.now.secs (map shown lines.now)) }
 {
     for line in lines {
-        push_warnings_on(alloc, warnings, line)?;
+        push_warnings_on(alloc, warnings, at, timer, line)?;
     }
     Ok(())
 }
@@ -44,10 +55,12 @@ fn push_warnings(
 fn push_warnings_on(
     alloc: Global,
     warnings: &mut Vec<String>,
+    at: Clocked<'_>,
+    timer: &LoadedTimer,
     line: &TimerLine,
 ) -> Result<(), AllocError>
     ensures { OnOk result (map string_bytes warnings.new.items
-        ≡ map string_bytes warnings.old.items ++ warnings_on (shown line.now)) }
+        ≡ map string_bytes warnings.old.items ++ warnings_on (setting_for at.entry timer.now) at.entry.now.secs (shown line.now)) }
 {
     let text = line.text.as_str();
     push_abbreviation(alloc, warnings, text, line.expr.zone_name())?;
@@ -56,7 +69,19 @@ fn push_warnings_on(
         warnings,
         text,
         reported_flaw(open_step_flaw(&line.expr)),
-    )
+    )?;
+    push_flaw(alloc, warnings, text, midnight_flaw(at, timer, line))
+}
+
+/// Returns the flaw that systemd 252 fails at a midnight that clocks skip, if the expression on `line` has it.
+fn midnight_flaw(at: Clocked<'_>, timer: &LoadedTimer, line: &TimerLine) -> Option<OpenStepFlaw>
+    ensures { result ≡ midnight_flaw (setting_for at.entry timer.now) at.entry.now.secs (shown line.now) }
+{
+    if stops_at_midnight(at, timer, line) {
+        Some(OpenStepFlaw::FailsAtMidnightChanges)
+    } else {
+        None
+    }
 }
 
 /// Appends the warning about the zone of the expression `text` if there is one.

@@ -13,6 +13,8 @@ use Rattle.cal_unit_index.specs.rules.Files.{texts_at}
 use Rattle.cal_unit_index.specs.rules.Folders.{folder_stems, prefixes_within}
 use Rattle.cal_unit_index.specs.rules.UnitName.{is_stem, template_of, unit_kind_of, unit_stem, without_suffix}
 use Rattle.cal_unit_index.specs.declared.unit_name.UnitKind.TheVariants.{Plain, Template, Instance}
+use Rattle.cal_unit_index.specs.declared.unit_type.UnitType.{UnitType}
+use Rattle.cal_unit_index.specs.declared.unit_type.UnitType.TheVariants.{Timer, Service}
 
 -- a file: a folder of the search path, the name of a drop-in folder in it, and the file's name
 abbrev File : Type 0
@@ -45,11 +47,14 @@ machine files links = record {
   variable = λ name. Ok None;
 }
 
--- the drop-ins that are read for a unit on a machine with these files; the search path has the folders `/etc` and
+-- the drop-ins that are read for a unit of this type on a machine with these files; the search path has the folders `/etc` and
 -- `/lib`
+abbrev read_by : UnitType → List File → List (List ℕ) → List (List ℕ) → List (List ℕ)
+read_by unit_type files links stems =
+    map (λ text. text.path) (texts_at (machine files links) (drop_ins (machine files links) (codes "/etc" ∷ codes "/lib" ∷ []) unit_type stems))
+
 abbrev read_on : List File → List (List ℕ) → List (List ℕ) → List (List ℕ)
-read_on files links stems =
-    map (λ text. text.path) (texts_at (machine files links) (drop_ins (machine files links) (codes "/etc" ∷ codes "/lib" ∷ []) stems))
+read_on = read_by Timer
 
 -- the files of a machine, the paths of its links to `/dev/null`, the stems of a unit's names, and the drop-ins that are
 -- read
@@ -133,6 +138,15 @@ rows =
 rows_read : map (λ (row : Row). read_on row.0 row.1.0 row.1.1.0) rows ≡ map (λ (row : Row). row.1.1.1) rows
 unfolding drop_ins chosen by_name candidates is_drop_in folder_stems prefixes_within template_of walk
 rows_read = refl
+
+-- a service reads the drop-ins in folders for services, in the same order, and none of those for timers
+service_reads : read_by Service
+    (in_etc (codes "service.d") (codes "x.conf") ∷ in_lib (codes "foo-.service.d") (codes "x.conf") ∷ in_lib (codes "foo-bar.service.d") (codes "y.conf")
+    ∷ in_etc (codes "service.d") (codes "z.conf") ∷ in_etc (codes "foo-bar.timer.d") (codes "x.conf") ∷ in_etc (codes "timer.d") (codes "t.conf") ∷ [])
+    [] (codes "foo-bar" ∷ [])
+    ≡ codes "/lib/foo-.service.d/x.conf" ∷ codes "/lib/foo-bar.service.d/y.conf" ∷ codes "/etc/service.d/z.conf" ∷ []
+unfolding drop_ins chosen by_name candidates is_drop_in folder_stems prefixes_within template_of walk
+service_reads = refl
 
 -- the stems whose drop-in folders apply to the units with the stems `foo--bar`, `foo-bar@x-y`, `-x`, `foo-` and `foo@`
 stems_apply : map folder_stems (codes "foo--bar" ∷ codes "foo-bar@x-y" ∷ codes "-x" ∷ codes "foo-" ∷ codes "foo@" ∷ [])

@@ -12,6 +12,7 @@ use crate::drop_in_files::{DropIn, choose, push_candidates};
 use crate::fault::{Reason, UnitFault};
 use crate::folders::folders_of;
 use crate::index::{SearchFolder, UnitIndex};
+use crate::unit_type::UnitType;
 use cal_machine::{Names, Tree, TreeFault, Unreadable, names_at};
 use std::alloc::{AllocError, Global};
 
@@ -24,7 +25,7 @@ pub struct DropIns {
     pub unread: Vec<UnitFault>,
 }
 
-/// Returns the drop-ins of a unit that count, in the order in which they are read (systemd.unit(5), Description).
+/// Returns the drop-ins of a unit of this type that count, in the order in which they are read (systemd.unit(5), Description).
 ///
 /// `names` are the stems of all names of the unit, its own first, as [`crate::names_of`] returns them. Of several drop-ins
 /// with the same file name, only the one in the most important folder counts, whatever it is. Fails only if allocation
@@ -33,17 +34,18 @@ pub fn find_drop_ins<T: Tree>(
     alloc: Global,
     tree: &mut T,
     index: &UnitIndex,
+    unit_type: UnitType,
     names: &[String],
 ) -> Result<DropIns, AllocError>
     ensures known { IfOk result (λ found. (machine : Machine) (path : List (List ℕ)) → T.shows tree.new machine
         → IsIndexOf machine path index.now
-        → map string_bytes found.paths.items ≡ drop_ins machine path (map string_bytes names.now)) }
+        → map string_bytes found.paths.items ≡ drop_ins machine path unit_type (map string_bytes names.now)) }
     ensures unread { IfOk result (λ found. (machine : Machine) (path : List (List ℕ)) → T.shows tree.new machine
         → IsIndexOf machine path index.now
-        → map shown_fault found.unread.items ≡ unread_folders machine path (map string_bytes names.now)) }
+        → map shown_fault found.unread.items ≡ unread_folders machine path unit_type (map string_bytes names.now)) }
     ensures grows { (machine : Machine) → T.shows tree.new machine → T.shows tree.old machine }
 {
-    find_below(alloc, tree, index.folders(), names)
+    find_below(alloc, tree, index.folders(), unit_type, names)
 }
 
 /// Returns the drop-ins in drop-in folders below the folders of the search path.
@@ -52,15 +54,16 @@ fn find_below<T: Tree>(
     alloc: Global,
     tree: &mut T,
     path: &[SearchFolder],
+    unit_type: UnitType,
     names: &[String],
 ) -> Result<DropIns, AllocError>
     ensures known { IfOk result (λ found. (machine : Machine) → T.shows tree.new machine → All (IsListing machine) path.now
-        → map string_bytes found.paths.items ≡ drop_ins machine (map path_of path.now) (map string_bytes names.now)) }
+        → map string_bytes found.paths.items ≡ drop_ins machine (map path_of path.now) unit_type (map string_bytes names.now)) }
     ensures unread { IfOk result (λ found. (machine : Machine) → T.shows tree.new machine → All (IsListing machine) path.now
-        → map shown_fault found.unread.items ≡ unread_folders machine (map path_of path.now) (map string_bytes names.now)) }
+        → map shown_fault found.unread.items ≡ unread_folders machine (map path_of path.now) unit_type (map string_bytes names.now)) }
     ensures grows { (machine : Machine) → T.shows tree.new machine → T.shows tree.old machine }
 {
-    let folders = folders_of(alloc, tree, path, names)?;
+    let folders = folders_of(alloc, tree, path, unit_type, names)?;
     let mut found = Vec::new(alloc);
     let mut unread = Vec::new(alloc);
     push_all(alloc, tree, folders.as_slice(), &mut found, &mut unread)?;

@@ -9,13 +9,11 @@ ghost use Rattle.cal_unit_index.specs.rules.SearchFolders.{IsListing, path_of};
 
 use crate::index::SearchFolder;
 use crate::unit_name::{stem_base, template_of};
+use crate::unit_type::UnitType;
 use cal_machine::{Entry, Last, Place, Tree, TreeFault, find_place, look_at};
 use std::alloc::{AllocError, Global};
 
-/// The name of the drop-in folders that apply to all timers.
-const TYPE_FOLDER: &str = "timer.d";
-
-/// Returns the drop-in folders that are read for a unit, from the least important one to the most important one.
+/// Returns the drop-in folders that are read for a unit of this type, from the least important one to the most important one.
 ///
 /// `path` has the folders of the search path, the most important first, and `stems` the stems of all names of the unit,
 /// its own first. Fails only if allocation fails.
@@ -23,27 +21,29 @@ pub(crate) fn folders_of<T: Tree>(
     alloc: Global,
     tree: &mut T,
     path: &[SearchFolder],
+    unit_type: UnitType,
     stems: &[String],
 ) -> Result<Vec<String>, AllocError>
     ensures known { IfOk result (λ found. (machine : Machine) → T.shows tree.new machine
         → All (IsListing machine) path.now → map string_bytes found.items
-        ≡ folders machine (reverse (map path_of path.now)) (reverse (map string_bytes stems.now))) }
+        ≡ folders machine (reverse (map path_of path.now)) unit_type (reverse (map string_bytes stems.now))) }
     ensures grows { (machine : Machine) → T.shows tree.new machine → T.shows tree.old machine }
 {
     let roots = reversed(alloc, path)?;
-    let mut folders = type_folders(alloc, tree, roots.as_slice())?;
+    let mut folders = type_folders(alloc, tree, roots.as_slice(), unit_type)?;
     let stems = reversed(alloc, stems)?;
     push_all_folders(
         alloc,
         tree,
         &mut folders,
         roots.as_slice(),
+        unit_type,
         stems.as_slice(),
     )?;
     Ok(folders)
 }
 
-/// Returns the items from the least important one to the most important one, which is the first of `items`.
+/// Returns the items in reverse. `items` has the most important one first, and the result has it last.
 #[tactic(auto, using(crate::proofs::FolderLemmas::map_reverse))]
 pub(crate) fn reversed<T>(alloc: Global, items: &[T]) -> Result<Vec<&T>, AllocError>
     ensures { IfOk result (λ reversed. map (λ item. item.now) reversed.items ≡ reverse items.now) }
@@ -53,19 +53,20 @@ pub(crate) fn reversed<T>(alloc: Global, items: &[T]) -> Result<Vec<&T>, AllocEr
     Ok(reversed)
 }
 
-/// Returns the drop-in folders that are read for all timers, below these folders of the search path.
+/// Returns the drop-in folders that are read for all units of this type, below these folders of the search path.
 fn type_folders<T: Tree>(
     alloc: Global,
     tree: &mut T,
     roots: &[&SearchFolder],
+    unit_type: UnitType,
 ) -> Result<Vec<String>, AllocError>
     ensures known { IfOk result (λ found. (machine : Machine) → T.shows tree.new machine
         → All (IsListing machine) (map (λ root. root.now) roots.now) → map string_bytes found.items
-        ≡ flat_map (folders_below machine (type_folder ∷ [])) (map (λ root. path_of root.now) roots.now)) }
+        ≡ flat_map (folders_below machine (type_folder unit_type ∷ [])) (map (λ root. path_of root.now) roots.now)) }
     ensures grows { (machine : Machine) → T.shows tree.new machine → T.shows tree.old machine }
 {
     let mut folders = Vec::new(alloc);
-    let names = vec![in alloc; String::from_str(alloc, TYPE_FOLDER)?]?;
+    let names = vec![in alloc; String::from_str(alloc, unit_type.folder())?]?;
     push_folders(alloc, tree, &mut folders, roots, names.as_slice())?;
     Ok(folders)
 }
@@ -76,16 +77,17 @@ fn push_all_folders<T: Tree>(
     tree: &mut T,
     folders: &mut Vec<String>,
     roots: &[&SearchFolder],
+    unit_type: UnitType,
     stems: &[&String],
 ) -> Result<(), AllocError>
     ensures known { OnOk result ((machine : Machine) → T.shows tree.new machine
         → All (IsListing machine) (map (λ root. root.now) roots.now) → map string_bytes folders.new.items
-        ≡ map string_bytes folders.old.items ++ flat_map (stem_folders machine (map (λ root. path_of root.now) roots.now))
+        ≡ map string_bytes folders.old.items ++ flat_map (stem_folders machine (map (λ root. path_of root.now) roots.now) unit_type)
         (map (λ stem. string_bytes stem.now) stems.now)) }
     ensures grows { (machine : Machine) → T.shows tree.new machine → T.shows tree.old machine }
 {
     for stem in stems {
-        push_stem_folders(alloc, tree, folders, roots, stem.as_str())?;
+        push_stem_folders(alloc, tree, folders, roots, unit_type, stem.as_str())?;
     }
     Ok(())
 }
@@ -96,15 +98,16 @@ fn push_stem_folders<T: Tree>(
     tree: &mut T,
     folders: &mut Vec<String>,
     roots: &[&SearchFolder],
+    unit_type: UnitType,
     stem: &str,
 ) -> Result<(), AllocError>
     ensures known { OnOk result ((machine : Machine) → T.shows tree.new machine
         → All (IsListing machine) (map (λ root. root.now) roots.now) → map string_bytes folders.new.items
         ≡ map string_bytes folders.old.items
-        ++ stem_folders machine (map (λ root. path_of root.now) roots.now) stem.now) }
+        ++ stem_folders machine (map (λ root. path_of root.now) roots.now) unit_type stem.now) }
     ensures grows { (machine : Machine) → T.shows tree.new machine → T.shows tree.old machine }
 {
-    let names = folder_names(alloc, stem)?;
+    let names = folder_names(alloc, unit_type, stem)?;
     push_folders(alloc, tree, folders, roots, names.as_slice())
 }
 
@@ -170,8 +173,8 @@ fn push_folder<T: Tree>(
     Ok(())
 }
 
-/// Returns whether the drop-in folder at a path is read. It is if it can't be looked at, so that this is reported when
-/// it is listed.
+/// Returns whether the drop-in folder at a path is read. A path that can't be looked at counts as read, so that this is
+/// reported when the folder is listed.
 fn is_followed<T: Tree>(alloc: Global, tree: &mut T, path: &str) -> Result<bool, AllocError>
     ensures known { IfOk result (λ is. (machine : Machine) → T.shows tree.new machine
         → is ≡ is_followed machine (entry_at machine path.now)) }
@@ -216,16 +219,23 @@ fn path_in(alloc: Global, folder: &str, name: &str) -> Result<String, AllocError
     Ok(format!(in alloc; "{folder}/{name}")?)
 }
 
-/// Returns the names of the drop-in folders that apply to the unit with this stem, from the least important one to the
-/// most important one.
-fn folder_names(alloc: Global, stem: &str) -> Result<Vec<String>, AllocError>
-    ensures { IfOk result (λ names. map string_bytes names.items ≡ map folder_name (folder_stems stem.now)) }
+/// Returns the names of the drop-in folders that apply to the unit of this type with this stem, from the least important
+/// one to the most important one.
+fn folder_names(alloc: Global, unit_type: UnitType, stem: &str) -> Result<Vec<String>, AllocError>
+    ensures { IfOk result (λ names. map string_bytes names.items ≡ map (folder_name unit_type) (folder_stems stem.now)) }
 {
     let mut names = Vec::new(alloc);
     for stem in folder_stems(alloc, stem)? {
-        names.push(format!(in alloc; "{stem}.timer.d")?)?;
+        names.push(folder_name(alloc, unit_type, stem.as_str())?)?;
     }
     Ok(names)
+}
+
+fn folder_name(alloc: Global, unit_type: UnitType, stem: &str) -> Result<String, AllocError>
+    ensures { IfOk result (λ name. string_bytes name ≡ folder_name unit_type stem.now) }
+{
+    let suffix = unit_type.suffix();
+    Ok(format!(in alloc; "{stem}{suffix}.d")?)
 }
 
 /// Returns the stems whose drop-in folders apply to the unit with this stem, from the least important one to the most

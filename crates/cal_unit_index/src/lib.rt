@@ -20,6 +20,7 @@ mod search_path;
 mod starts;
 mod unit;
 mod unit_name;
+mod unit_type;
 
 pub use drop_ins::{DropIns, find_drop_ins};
 pub use fault::{Reason, UnitFault};
@@ -30,3 +31,4 @@ pub use search_path::{UserVariables, given_path, system_path, user_path};
 pub use starts::{Started, find_started};
 pub use unit::{Unit, UnitFile, find_unit};
 pub use unit_name::{UnitKind, unit_kind_of, unit_stem};
+pub use unit_type::UnitType;

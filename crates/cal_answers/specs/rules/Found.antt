@@ -1,5 +1,6 @@
--- What is found when a question is read: the contract of `read_question`, which `calendar-timers` calls once per run.
-use Rattle.std.specs.Prelude.{◌≡◌, ◌⊎◌, ◌==◌, ◌||◌, ⊤, ℕ, ℤ, Bool, true, false, not, All, List, [], ◌∷◌, Option, Some, drop, length, map, string_bytes}
+-- What `read_question` finds: all that the answer to a question depends on, or why the question can't be answered.
+-- `calendar-timers` calls it once per run.
+use Rattle.std.specs.Prelude.{◌≡◌, ◌⊎◌, ◌==◌, ◌||◌, ⊤, ℕ, ℤ, Bool, true, false, not, All, List, [], ◌∷◌, Option, None, Some, drop, length, map, string_bytes}
 use Rattle.std.specs.List.{list_any}
 use Rattle.std.specs.Option.{option_or}
 use Rattle.cal_machine.specs.rules.Machine.{Machine}
@@ -22,6 +23,7 @@ use Rattle.cal_answers.specs.rules.LocalClock.{IsLocalZone, clock_zone, local_zo
 use Rattle.cal_answers.specs.rules.MachinePath.{machine_path}
 use Rattle.cal_answers.specs.rules.Present.{IsPresent}
 use Rattle.cal_answers.specs.rules.RangeZones.{AreRangeZones}
+use Rattle.cal_answers.specs.rules.Trigger.{targets_on}
 use Rattle.cal_answers.specs.rules.Unanswerable.{IsUnanswerableOn}
 
 -- ## What was loaded
@@ -52,6 +54,12 @@ verb_of (loads.Lint files timers) = verbs.Lint
 verb_of (loads.Between timers) = verbs.Between
 verb_of (loads.Same first second) = verbs.Same
 verb_of (loads.Next timers) = verbs.Next
+verb_of (loads.Due timer) = verbs.Due
+
+-- what was loaded for `due` is a timer of the machine; if nothing was loaded, no timer is asked about
+abbrev pub IsDueOn : Machine → List (List ℕ) → List (List ℕ) → Option Loaded → Type 0
+IsDueOn machine path targets None = targets ≡ []
+IsDueOn machine path targets (Some timer) = AreTimersOn machine path timer
 
 -- the timers and the files that were loaded for these targets are those of the machine
 abbrev pub AreLoadedOn : Machine → List (List ℕ) → List (List ℕ) → LoadedByVerb → Type 0
@@ -62,6 +70,7 @@ AreLoadedOn machine path targets (loads.Lint files timers) =
 AreLoadedOn machine path targets (loads.Between timers) = AreTimersOn machine path timers
 AreLoadedOn machine path targets (loads.Same first second) = AreSidesOn machine path targets first second
 AreLoadedOn machine path targets (loads.Next timers) = AreMadeOf machine targets timers
+AreLoadedOn machine path targets (loads.Due timer) = IsDueOn machine path targets timer
 
 -- the targets without the start and the end of the range, which are the first two of `between`
 abbrev pub timer_targets : {X : Type 0} → Verb → List X → List X
@@ -71,12 +80,19 @@ timer_targets verbs.Lint targets = targets
 timer_targets verbs.Between targets = drop 2 targets
 timer_targets verbs.Same targets = targets
 timer_targets verbs.Next targets = targets
+timer_targets verbs.Due targets = targets
 
--- whether these targets can be about units: there are none, which stands for units, or one of them is not a path
+-- whether one of these targets is not a path
+abbrev pub has_name : List (List ℕ) → Bool
+has_name targets = list_any (λ target. not (is_path target)) targets
+
+-- whether these targets can be about units: without a target, a question is about units; otherwise one of them must be
+-- something else than a path
 abbrev pub name_units : List (List ℕ) → Bool
-name_units targets = length targets == 0 || list_any (λ target. not (is_path target)) targets
+name_units targets = length targets == 0 || has_name targets
 
--- whether a question can be about units; the targets of `next` are expressions
+-- whether a question can be about units; the targets of `next` are expressions, and `due` is about no timer if it has
+-- no target
 abbrev pub needs_units : Verb → List (List ℕ) → Bool
 needs_units verbs.List targets = name_units targets
 needs_units verbs.Show targets = name_units targets
@@ -84,6 +100,7 @@ needs_units verbs.Lint targets = name_units targets
 needs_units verbs.Between targets = name_units (drop 2 targets)
 needs_units verbs.Same targets = name_units targets
 needs_units verbs.Next targets = false
+needs_units verbs.Due targets = has_name targets
 
 -- All units that are taken without a target were looked for, and nothing else was loaded; if these are all units of the
 -- search path, it is known which of them are started.
@@ -92,8 +109,8 @@ HasUnits Knows is_all timers =
     HasAllUnits Knows is_all timers
     × ((machine : Machine) (path : List (List ℕ)) → Knows machine path → shown_stems timers.started ≡ started_if_all machine path is_all)
 
--- Everything that these targets stand for was looked for, and nothing else was loaded. Without a target, that is the units
--- that other units start, or, if `is_all`, all units.
+-- Everything that these targets stand for was looked for, and nothing else was loaded. Without a target, that is the
+-- units that other units start, or, if `is_all`, all units.
 abbrev pub HasAllFor : (Machine → List (List ℕ) → Type 0) → Bool → List (List ℕ) → Loaded → Type 0
 HasAllFor Knows is_all [] timers = HasUnits Knows is_all timers
 HasAllFor Knows is_all (one ∷ rest) timers = HasAllTargets Knows (one ∷ rest) timers
@@ -104,8 +121,13 @@ abbrev pub HasAllLinted : (Machine → List (List ℕ) → Type 0) → Bool → 
 HasAllLinted Knows is_all [] timers = HasUnits Knows is_all timers
 HasAllLinted Knows is_all (one ∷ rest) timers = ⊤
 
--- For `list`, `show` and `between`, and for `lint` without targets, no timer is missing on a machine and search path for
--- which `Knows` holds. About the others, only `AreLoadedOn` says something.
+-- The timer that `due` is asked about was looked for, and nothing else was loaded.
+abbrev pub HasDue : (Machine → List (List ℕ) → Type 0) → List (List ℕ) → Option Loaded → Type 0
+HasDue Knows targets None = ⊤
+HasDue Knows targets (Some timer) = HasAllTargets Knows targets timer
+
+-- For `list`, `show`, `between` and `due`, and for `lint` without targets, no timer is missing on a machine and search
+-- path for which `Knows` holds. About all other questions, only `AreLoadedOn` says something.
 abbrev pub AreAll : (Machine → List (List ℕ) → Type 0) → Bool → List (List ℕ) → LoadedByVerb → Type 0
 AreAll Knows is_all targets (loads.List timers) = HasAllFor Knows is_all targets timers
 AreAll Knows is_all targets (loads.Show timers) = HasAllFor Knows is_all targets timers
@@ -113,6 +135,7 @@ AreAll Knows is_all targets (loads.Lint files timers) = HasAllLinted Knows is_al
 AreAll Knows is_all targets (loads.Between timers) = HasAllFor Knows is_all (drop 2 targets) timers
 AreAll Knows is_all targets (loads.Same first second) = ⊤
 AreAll Knows is_all targets (loads.Next timers) = ⊤
+AreAll Knows is_all targets (loads.Due timer) = HasDue Knows targets timer
 
 -- no timer is missing (`AreAll`) on this machine and search path
 abbrev pub AreAllOn : Machine → List (List ℕ) → Bool → List (List ℕ) → LoadedByVerb → Type 0
@@ -129,25 +152,26 @@ abbrev pub IsPathOf : Machine → Bool → Bool → List (List ℕ) → Type 0
 IsPathOf machine is_user true path = machine_path machine is_user ≡ Some path
 IsPathOf machine is_user false path = (machine_path machine is_user ≡ Some path) ⊎ (path ≡ [])
 
-abbrev pub targets_of : Question → List (List ℕ)
-targets_of question = map string_bytes question.targets.items
+-- what a question is about on this machine
+abbrev pub targets_of : Machine → Question → List (List ℕ)
+targets_of machine question = targets_on machine question.verb (map string_bytes question.targets.items)
 
--- What is known for a question is true on this machine: the local zone, the zone in which times are shown, the zones that
--- a range names, the index of the search path, and the timers and files that the targets stand for, of which none is
--- missing.
+-- What is known for a question is true on this machine: the local zone, the zone in which times are shown, the zones
+-- that a range names, the index of the search path, and the timers and files that the targets stand for, of which none
+-- is missing.
 pub record IsKnownOn (machine : Machine) (question : Question) (known : Known) : Type 0 where
   pub local : IsLocalZone machine (local_zone_of machine question) (clock_zone known.local)
   pub shown : IsLocalZone machine (shown_zone_of machine question) (clock_zone known.shown)
-  pub range : AreRangeZones machine question.verb (targets_of question) known.range
+  pub range : AreRangeZones machine question.verb (targets_of machine question) known.range
   pub path : List (List ℕ)
-  pub searched : IsPathOf machine question.is_user (needs_units question.verb (targets_of question)) path
+  pub searched : IsPathOf machine question.is_user (needs_units question.verb (targets_of machine question)) path
   pub index : IsIndexOf machine path known.index
   pub for_verb : verb_of known.loaded ≡ question.verb
-  pub loaded : AreLoadedOn machine path (targets_of question) known.loaded
-  pub whole : AreAllOn machine path question.is_all (targets_of question) known.loaded
+  pub loaded : AreLoadedOn machine path (targets_of machine question) known.loaded
+  pub whole : AreAllOn machine path question.is_all (targets_of machine question) known.loaded
 
--- `IsSo` follows from what was read. `given`: the system calls returned everything that was read. `is_so`: it is true on
--- every machine that matches what was read. `possible`: such a machine exists.
+-- `IsSo` follows from what was read. `given`: the system calls returned everything that was read. `is_so`: it is true
+-- on every machine that matches what was read. `possible`: such a machine exists.
 pub record FollowsFromRead (gives : Said → Bool) (IsSo : Machine → Type 0) : Type 0 where
   pub read : Seen
   pub given : AllGiven gives read
@@ -160,7 +184,7 @@ abbrev pub IsKnownBy : (Said → Bool) → Question → Option ℤ → Known →
 IsKnownBy gives question clock known =
     IsPresent (option_or question.now clock) (Some known.now) × FollowsFromRead gives (λ machine. IsKnownOn machine question known)
 
--- What was found is known, or it follows from what was read that the question can't be answered.
+-- What was found follows from what was read: either what is known, or that the question can't be answered.
 abbrev pub IsFoundBy : (Said → Bool) → Question → Option ℤ → founds.Found → Type 0
 IsFoundBy gives question clock (founds.TheVariants.Unanswerable reason) =
     FollowsFromRead gives (λ machine. IsUnanswerableOn machine question clock)

@@ -23,9 +23,8 @@ abbrev pub IsZoneNamed : Machine → List ℕ → Bool → TimeZone → Type 0
 IsZoneNamed machine name true zone = zone ≡ UTC
 IsZoneNamed machine name false zone = IsZoneOn machine name zone
 
--- Whether the zone of `jiff` is this local zone. The machine's own zone is UTC if
--- /etc/localtime doesn't lead to a zone file. No zone is the
--- local zone if it is unclear or can't be read.
+-- Whether the zone of `jiff` is this local zone. The machine's own zone is UTC if /etc/localtime doesn't lead to a zone
+-- file. No zone is the local zone if the local zone is unclear or can't be read.
 abbrev pub IsThisZone : Machine → MachineLocalZone → TimeZone → Type 0
 IsThisZone machine InUtc zone = zone ≡ UTC
 IsThisZone machine (Ahead seconds) zone = zone ≡ fixed_offset_zone seconds
@@ -56,6 +55,7 @@ is_next verbs.Lint = false
 is_next verbs.Between = false
 is_next verbs.Same = false
 is_next verbs.Next = true
+is_next verbs.Due = false
 
 -- whether the answers of a verb have times
 abbrev pub shows_times : Verb → Bool
@@ -65,6 +65,7 @@ shows_times verbs.Lint = false
 shows_times verbs.Between = true
 shows_times verbs.Same = true
 shows_times verbs.Next = true
+shows_times verbs.Due = true
 
 -- the zone of expressions that name no zone: that of `--zone`, or else, for `next`, that of `TZ`, or else the machine's
 abbrev pub local_zone_of : Machine → Question → MachineLocalZone

@@ -1,40 +1,58 @@
--- What is printed to standard output: for each verb the text or the JSON document of a report.
-use Rattle.std.specs.Prelude.{◌≡◌, ◌==◌, ◌&&◌, ◌||◌, ◌⊎◌, ⊤, ℕ, ℤ, Bool, false, true, not, List, [], ◌∷◌, Option, None, Some, Result, Ok, Err, if◌then◌else◌, int_lt, length, map, slice_get, string_bytes}
+-- What is printed, and the exit status: for each verb the text or the JSON document of a report, with its error lines.
+use Rattle.std.specs.Prelude.{◌≡◌, ◌==◌, ◌++◌, ◌&&◌, ◌||◌, ◌⊎◌, ℕ, ℤ, Bool, false, true, is_none, not, List, [], Option, None, Some, Result, Ok, Err, codes, if◌then◌else◌, int_lt, length, map, max, slice_get, string_bytes}
 use Rattle.std.specs.List.{AllZip}
-use Rattle.std.specs.Option.{unwrap_or}
+use Rattle.std.specs.Option.{option_or, unwrap_or}
 use Rattle.std.specs.Str.{bytes_eq}
 use Rattle.cal_bytes.specs.rules.Trim.{trim_end_matches}
 use Rattle.cal_machine.specs.rules.Places.{is_slash}
 use Rattle.cal_machine.specs.rules.Seen.{Said}
+use Rattle.cal_load.specs.declared.files.LoadedFiles.{LoadedFiles}
 use Rattle.cal_load.specs.declared.loaded.Loaded.{Loaded}
 use Rattle.cal_load.specs.declared.loaded.LoadedTimer.{LoadedTimer}
 use Rattle.cal_load.specs.rules.AllTargets.{is_path}
 use Rattle.cal_load.specs.rules.Loaded.{expressions_in}
 use Rattle.cal_stamp.specs.declared.fault.StampFault.{StampFault}
+use Rattle.cal_stamp.specs.rules.StampFault.{message_of}
+use Rattle.cal_tasks.specs.declared.due.DueRun.{DueRun}
+use Rattle.cal_tasks.specs.declared.due.DueRun.TheVariants as runs
+use Rattle.cal_tasks.specs.declared.when.WhenFault.{WhenFault}
+use Rattle.cal_tasks.specs.declared.when.WhenFault.TheVariants.{NoInstant, NoMemory}
 use Rattle.cal_tasks.specs.rules.BetweenReport.{AreBetween}
+use Rattle.cal_tasks.specs.rules.DueRun.{IsDueRun}
 use Rattle.cal_tasks.specs.rules.ListReport.{IsListOf}
+use Rattle.cal_tasks.specs.rules.LoadedElapses.{setting_for}
 use Rattle.cal_tasks.specs.rules.SameReport.{comparison_of}
 use Rattle.cal_tasks.specs.rules.ShowReport.{IsShownTimer}
 use Rattle.cal_tasks.specs.rules.When.{setting_with, when_in}
 use Rattle.cal_timers_command.specs.declared.question.Question.{Question}
 use Rattle.cal_timers_report.specs.declared.style.Style.{Style}
 use Rattle.cal_timers_report.specs.rules.BetweenText.{between_lines}
-use Rattle.cal_timers_report.specs.rules.Documents.{between_document, list_document, same_document, show_document}
+use Rattle.cal_timers_report.specs.rules.Documents.{between_document, due_document, list_document, same_document, show_document}
+use Rattle.cal_timers_report.specs.rules.DueText.{due_line}
 use Rattle.cal_timers_report.specs.rules.ListTable.{list_table}
-use Rattle.cal_timers_report.specs.rules.ReportView.{ComparisonView, ElapseView, TimerView, UnitView}
+use Rattle.cal_timers_report.specs.rules.ReportView.{ComparisonView, DueView, ElapseView, TimerView, UnitView}
 use Rattle.cal_timers_report.specs.rules.SameText.{same_lines}
 use Rattle.cal_timers_report.specs.rules.ShowText.{show_lines}
 use Rattle.cal_timers_text.specs.rules.Warnings.{warnings_in}
+use Rattle.cal_unit_index.specs.declared.index.UnitIndex.{UnitIndex}
 use Rattle.cal_zone.specs.rules.Zone.{zone_of}
 use Rattle.cal_answers.specs.declared.answer.Asked.{Asked}
 use Rattle.cal_answers.specs.declared.found.Found as founds
 use Rattle.cal_answers.specs.declared.found.Known.{Known}
 use Rattle.cal_answers.specs.declared.found.LoadedByVerb.{LoadedByVerb}
 use Rattle.cal_answers.specs.declared.found.LoadedByVerb.TheVariants as loads
+use Rattle.cal_answers.specs.rules.ErrorText.{fault_lines, lines_of_both, lint_lines, loaded_lines, masked_lines}
 use Rattle.cal_answers.specs.rules.Found.{IsFoundBy}
+use Rattle.cal_answers.specs.rules.LintOutput.{IsLintEndBy, IsLintOutputBy}
 use Rattle.cal_answers.specs.rules.LocalClock.{clock_zone}
+use Rattle.cal_answers.specs.rules.Printed.{IsStopped, Printed, status_by}
+use Rattle.cal_answers.specs.rules.Remarks.{with_common_lines}
 
 -- ## Verbs
+
+-- the error lines about what was loaded, and the exit status by them
+abbrev pub HasLoadedLines : Loaded → Printed → Type 0
+HasLoadedLines loaded printed = (printed.err ≡ loaded_lines loaded) × (printed.status ≡ status_by printed.err)
 
 -- the masked units that `list` lists: those that are named, or with `--all` those of the search path
 abbrev pub listed_masked : Asked → Loaded → List (List ℕ)
@@ -58,7 +76,7 @@ show_output asked timers masked =
 -- the report of a timer, with its warnings and as many elapses as are asked for
 abbrev pub IsShownAs : Asked → LoadedTimer → TimerView → Type 0
 IsShownAs asked timer view =
-    IsShownTimer asked.at asked.count (warnings_in (expressions_in timer.calendar)) timer view
+    IsShownTimer asked.at asked.count (warnings_in (setting_for asked.at timer) asked.at.now.secs (expressions_in timer.calendar)) timer view
 
 abbrev pub IsShowOutput : Asked → Loaded → List ℕ → Type 0
 IsShowOutput asked loaded out =
@@ -69,44 +87,49 @@ abbrev pub between_output : Asked → List ElapseView → List ℕ
 between_output asked rows =
     if asked.is_json then between_document asked.shown.local rows else between_lines asked.shown.local rows
 
-abbrev pub IsRangeOutput : Asked → Loaded → ℤ → ℤ → Bool → List ℕ → Type 0
-IsRangeOutput asked loaded from before true out = out ≡ []
-IsRangeOutput asked loaded from before false out =
+-- the elapses in the range
+abbrev pub IsBetweenOutput : Asked → Loaded → ℤ → ℤ → List ℕ → Type 0
+IsBetweenOutput asked loaded from before out =
     (rows : List ElapseView) × AreBetween asked.at from before loaded.timers.items rows × (out ≡ between_output asked rows)
 
--- nothing is printed if the end of the range isn't an instant, or is before its start
-abbrev pub IsOutputUntil : Asked → Loaded → ℤ → Result ℤ StampFault → List ℕ → Type 0
-IsOutputUntil asked loaded from (Err fault) out = out ≡ []
-IsOutputUntil asked loaded from (Ok before) out = IsRangeOutput asked loaded from before (int_lt before from) out
+abbrev pub IsRangeAnswer : Asked → Loaded → ℤ → ℤ → Bool → Printed → Type 0
+IsRangeAnswer asked loaded from before true printed = IsStopped (codes "TO is before FROM") printed
+IsRangeAnswer asked loaded from before false printed =
+    IsBetweenOutput asked loaded from before printed.out × HasLoadedLines loaded printed
 
--- nothing is printed if the start of the range isn't an instant; the end is the first such time after the start
-abbrev pub IsOutputFrom : Asked → Loaded → Result ℤ StampFault → List ℕ → List ℕ → Type 0
-IsOutputFrom asked loaded (Err fault) before out = out ≡ []
-IsOutputFrom asked loaded (Ok from) before out =
-    IsOutputUntil asked loaded from (when_in asked.shown.now.secs (setting_with asked.shown asked.range.now.before) from before) out
+-- the reason why a time can't be used: its text and the error
+abbrev pub bad_time : List ℕ → StampFault → List ℕ
+bad_time text fault = text ++ codes ": " ++ message_of fault
 
--- nothing is printed without a start and an end
-abbrev pub IsOutputOfTexts : Asked → Loaded → Option (List ℕ) → Option (List ℕ) → List ℕ → Type 0
-IsOutputOfTexts asked loaded None before out = out ≡ []
-IsOutputOfTexts asked loaded (Some from) None out = out ≡ []
-IsOutputOfTexts asked loaded (Some from) (Some before) out =
-    IsOutputFrom asked loaded (when_in asked.shown.now.secs (setting_with asked.shown asked.range.now.from) asked.shown.now.secs from) before out
+-- the answer for a time that can't be used; there is none if memory ran out
+abbrev pub IsStoppedBy : List ℕ → WhenFault → Printed → Type 0
+IsStoppedBy text (NoInstant fault) printed = IsStopped (bad_time text fault) printed
+IsStoppedBy text NoMemory printed = ⊥
+
+-- the answer for a range with this text as its end, which resolves to an instant or not
+abbrev pub IsAnswerUntil : Asked → Loaded → ℤ → List ℕ → Result ℤ StampFault → Printed → Type 0
+IsAnswerUntil asked loaded from before (Err fault) printed = IsStopped (bad_time before fault) printed
+IsAnswerUntil asked loaded from before (Ok end) printed = IsRangeAnswer asked loaded from end (int_lt end from) printed
+
+-- the answer for a range between these texts, if the start resolves to an instant or not; the end is the first such
+-- time after the start
+abbrev pub IsAnswerFrom : Asked → Loaded → List ℕ → List ℕ → Result ℤ StampFault → Printed → Type 0
+IsAnswerFrom asked loaded from before (Err fault) printed = IsStopped (bad_time from fault) printed
+IsAnswerFrom asked loaded from before (Ok start) printed =
+    IsAnswerUntil asked loaded start before (when_in asked.shown.now.secs (setting_with asked.shown asked.range.now.before) start before) printed
+
+abbrev pub IsAnswerOfTexts : Asked → Loaded → Option (List ℕ) → Option (List ℕ) → Printed → Type 0
+IsAnswerOfTexts asked loaded None before printed = IsStopped (codes "FROM and TO are missing") printed
+IsAnswerOfTexts asked loaded (Some from) None printed = IsStopped (codes "FROM and TO are missing") printed
+IsAnswerOfTexts asked loaded (Some from) (Some before) printed =
+    IsAnswerFrom asked loaded from before
+    (when_in asked.shown.now.secs (setting_with asked.shown asked.range.now.from) asked.shown.now.secs from) printed
 
 -- the start and the end of the range are the first two targets
-abbrev pub IsBetweenOutput : Asked → Loaded → List (List ℕ) → List ℕ → Type 0
-IsBetweenOutput asked loaded targets out = IsOutputOfTexts asked loaded (slice_get targets 0) (slice_get targets 1) out
+abbrev pub IsBetweenAnswer : Asked → Loaded → List (List ℕ) → Printed → Type 0
+IsBetweenAnswer asked loaded targets printed = IsAnswerOfTexts asked loaded (slice_get targets 0) (slice_get targets 1) printed
 
-abbrev pub same_output : Asked → ComparisonView → List ℕ
-same_output asked found =
-    if asked.is_json then same_document asked.shown.local found else same_lines asked.shown.local found
-
--- the comparison of two timers, if there are two
-abbrev pub IsComparedOutput : Asked → Option LoadedTimer → Option LoadedTimer → List ℕ → Type 0
-IsComparedOutput asked None other out = out ≡ []
-IsComparedOutput asked (Some one) None out = out ≡ []
-IsComparedOutput asked (Some one) (Some other) out = out ≡ same_output asked (comparison_of asked.at one other)
-
--- whether this name of a timer is the target itself, slashes at its end aside; the timers of a folder have other names
+-- whether the name of the timer is the target itself, slashes at its end aside; the timers of a folder have other names
 abbrev pub is_named : List ℕ → LoadedTimer → Bool
 is_named target timer = bytes_eq (string_bytes timer.name) (trim_end_matches is_slash target)
 
@@ -118,32 +141,136 @@ is_folder target loaded (Some timer) = is_path target && not (is_named target ti
 abbrev pub is_loaded_folder : List ℕ → Loaded → Bool
 is_loaded_folder target loaded = is_folder target loaded (slice_get loaded.timers.items 0)
 
--- whether one of the two targets is a folder
-abbrev pub has_folder : List (List ℕ) → Loaded → Loaded → Bool
-has_folder [] first second = false
-has_folder (one ∷ []) first second = false
-has_folder (one ∷ other ∷ more) first second = is_loaded_folder one first || is_loaded_folder other second
+abbrev pub if_folder : List ℕ → Loaded → Option (List ℕ)
+if_folder target loaded = if is_loaded_folder target loaded then Some target else None
 
-abbrev pub IsComparedUnless : Bool → Asked → Loaded → Loaded → List ℕ → Type 0
-IsComparedUnless true asked first second out = out ≡ []
-IsComparedUnless false asked first second out =
-    IsComparedOutput asked (slice_get first.timers.items 0) (slice_get second.timers.items 0) out
+-- the first of two targets that is a folder
+abbrev pub folder_of_both : Option (List ℕ) → Option (List ℕ) → Loaded → Loaded → Option (List ℕ)
+folder_of_both None other first second = None
+folder_of_both (Some one) None first second = None
+folder_of_both (Some one) (Some other) first second = option_or (if_folder one first) (if_folder other second)
 
--- the comparison of the two timers; nothing is printed if a target is a folder, or no timer was loaded for it
-abbrev pub IsSameOutput : Asked → Loaded → Loaded → List ℕ → Type 0
-IsSameOutput asked first second out =
-    IsComparedUnless (has_folder (map string_bytes asked.targets.now) first second) asked first second out
+-- the reason why a folder can't be compared, and why it isn't a timer whose run is due
+abbrev pub not_a_timer : List ℕ → List ℕ
+not_a_timer folder = folder ++ codes ": a directory, not a timer"
+
+abbrev pub same_output : Asked → ComparisonView → List ℕ
+same_output asked found =
+    if asked.is_json then same_document asked.shown.local found else same_lines asked.shown.local found
+
+-- whether both timers elapse at the same instants
+abbrev pub is_same : ComparisonView → Bool
+is_same found = is_none found.one.only && is_none found.other.only
+
+-- the comparison of two timers with these error lines: the exit status is 0 if there are no error lines and both
+-- elapse at the same instants, and otherwise 1
+abbrev pub IsComparedAnswer : Asked → List ℕ → ComparisonView → Printed → Type 0
+IsComparedAnswer asked lines found printed =
+    (printed.out ≡ same_output asked found) × (printed.err ≡ lines)
+    × (printed.status ≡ (if is_same found && length lines == 0 then 0 else 1))
+
+-- the answer if one of two timers wasn't loaded: a masked unit has a line, too
+abbrev pub IsUnloadedPair : Loaded → Loaded → Printed → Type 0
+IsUnloadedPair first second printed =
+    (printed.out ≡ [])
+    × (printed.err ≡ lines_of_both first second ++ masked_lines (map string_bytes first.masked.items) ++ masked_lines (map string_bytes second.masked.items))
+    × (printed.status ≡ 2)
+
+abbrev pub IsPairAnswer : Asked → Loaded → Loaded → Option LoadedTimer → Option LoadedTimer → Printed → Type 0
+IsPairAnswer asked first second None other printed = IsUnloadedPair first second printed
+IsPairAnswer asked first second (Some one) None printed = IsUnloadedPair first second printed
+IsPairAnswer asked first second (Some one) (Some other) printed =
+    IsComparedAnswer asked (lines_of_both first second) (comparison_of asked.at one other) printed
+
+abbrev pub IsSameUnless : Option (List ℕ) → Asked → Loaded → Loaded → Printed → Type 0
+IsSameUnless (Some folder) asked first second printed = IsStopped (not_a_timer folder) printed
+IsSameUnless None asked first second printed =
+    IsPairAnswer asked first second (slice_get first.timers.items 0) (slice_get second.timers.items 0) printed
+
+-- the comparison of the two timers, unless a target is a folder
+abbrev pub IsSameAnswer : Asked → List (List ℕ) → Loaded → Loaded → Printed → Type 0
+IsSameAnswer asked targets first second printed =
+    IsSameUnless (folder_of_both (slice_get targets 0) (slice_get targets 1) first second) asked first second printed
+
+abbrev pub due_output : Asked → DueView → List ℕ
+due_output asked report =
+    if asked.is_json then due_document asked.shown.local report else due_line asked.shown.local report
+
+-- the report of a run that no timer started
+abbrev pub by_hand : DueView
+by_hand = record { unit = None; is_due = true; elapse = None }
+
+-- the report of a run that the timer of this name started
+abbrev pub due_view : List ℕ → DueRun → DueView
+due_view name (runs.Due instant) = record { unit = Some name; is_due = true; elapse = Some instant.secs }
+due_view name (runs.Excepted instant) = record { unit = Some name; is_due = false; elapse = Some instant.secs }
+due_view name runs.NotElapsed = record { unit = Some name; is_due = false; elapse = None }
+
+-- 0 if the run is due, and 1 if it isn't
+abbrev pub status_of : DueRun → ℕ
+status_of (runs.Due instant) = 0
+status_of (runs.Excepted instant) = 1
+status_of runs.NotElapsed = 1
+
+abbrev pub IsTimerDue : Asked → Loaded → LoadedTimer → DueRun → Printed → Type 0
+IsTimerDue asked loaded timer run printed =
+    IsDueRun asked.at timer run × (printed.out ≡ due_output asked (due_view (string_bytes timer.name) run))
+    × (printed.err ≡ loaded_lines loaded) × (printed.status ≡ max (status_by printed.err) (status_of run))
+
+abbrev pub unloaded_lines : Loaded → List ℕ
+unloaded_lines loaded = fault_lines loaded.faults.items ++ masked_lines (map string_bytes loaded.masked.items)
+
+abbrev pub IsUnloadedBy : Bool → List ℕ → Printed → Type 0
+IsUnloadedBy true lines printed = IsStopped (codes "no timer was found") printed
+IsUnloadedBy false lines printed = (printed.out ≡ []) × (printed.err ≡ lines) × (printed.status ≡ 1)
+
+-- the answer if no timer was loaded: the error lines, and a line if it is masked
+abbrev pub IsUnloaded : Loaded → Printed → Type 0
+IsUnloaded loaded printed = IsUnloadedBy (length (unloaded_lines loaded) == 0) (unloaded_lines loaded) printed
+
+abbrev pub IsFirstDue : Asked → Loaded → Option LoadedTimer → Printed → Type 0
+IsFirstDue asked loaded None printed = IsUnloaded loaded printed
+IsFirstDue asked loaded (Some timer) printed = (run : DueRun) × IsTimerDue asked loaded timer run printed
+
+abbrev pub folder_of : Option (List ℕ) → Loaded → Option (List ℕ)
+folder_of None loaded = None
+folder_of (Some target) loaded = if_folder target loaded
+
+abbrev pub IsDueUnless : Option (List ℕ) → Asked → Loaded → Printed → Type 0
+IsDueUnless (Some folder) asked loaded printed = IsStopped (not_a_timer folder) printed
+IsDueUnless None asked loaded printed = IsFirstDue asked loaded (slice_get loaded.timers.items 0) printed
+
+-- the report about the run that the timer started, unless the target is a folder; a run that no timer started is due
+abbrev pub IsDueAnswer : Asked → Option Loaded → Printed → Type 0
+IsDueAnswer asked None printed = (printed.out ≡ due_output asked by_hand) × (printed.err ≡ []) × (printed.status ≡ 0)
+IsDueAnswer asked (Some loaded) printed =
+    IsDueUnless (folder_of (slice_get (map string_bytes asked.targets.now) 0) loaded) asked loaded printed
 
 -- ## The answer
 
--- What is printed for what was loaded. Nothing is said about `lint` yet.
-abbrev pub IsOutputOf : Asked → LoadedByVerb → List ℕ → Type 0
-IsOutputOf asked (loads.List timers) out = IsListOutput asked timers out
-IsOutputOf asked (loads.Show timers) out = IsShowOutput asked timers out
-IsOutputOf asked (loads.Lint files timers) out = ⊤
-IsOutputOf asked (loads.Between timers) out = IsBetweenOutput asked timers (map string_bytes asked.targets.now) out
-IsOutputOf asked (loads.Same first second) out = IsSameOutput asked first second out
-IsOutputOf asked (loads.Next timers) out = IsShowOutput asked timers out
+abbrev pub IsListAnswer : Asked → Loaded → Printed → Type 0
+IsListAnswer asked loaded printed = IsListOutput asked loaded printed.out × HasLoadedLines loaded printed
+
+abbrev pub IsShowAnswer : Asked → Loaded → Printed → Type 0
+IsShowAnswer asked loaded printed = IsShowOutput asked loaded printed.out × HasLoadedLines loaded printed
+
+-- the problems of the files and the timers, with the error lines about what can't be read; `index` is the index of the
+-- search path
+abbrev pub IsLintAnswer : Asked → UnitIndex → LoadedFiles → Loaded → Printed → Type 0
+IsLintAnswer asked index files timers printed =
+    IsLintOutputBy asked index files timers printed.out
+    × (printed.err ≡ lint_lines files.faults.items timers.faults.items)
+    × IsLintEndBy asked index files timers printed.err printed.status
+
+-- what a verb answers for what was loaded
+abbrev pub IsVerbAnswer : Asked → UnitIndex → LoadedByVerb → Printed → Type 0
+IsVerbAnswer asked index (loads.List timers) printed = IsListAnswer asked timers printed
+IsVerbAnswer asked index (loads.Show timers) printed = IsShowAnswer asked timers printed
+IsVerbAnswer asked index (loads.Lint files timers) printed = IsLintAnswer asked index files timers printed
+IsVerbAnswer asked index (loads.Between timers) printed = IsBetweenAnswer asked timers (map string_bytes asked.targets.now) printed
+IsVerbAnswer asked index (loads.Same first second) printed = IsSameAnswer asked (map string_bytes asked.targets.now) first second printed
+IsVerbAnswer asked index (loads.Next timers) printed = IsShowAnswer asked timers printed
+IsVerbAnswer asked index (loads.Due timer) printed = IsDueAnswer asked timer printed
 
 -- What a verb needs to know is what the question says and what is known: without `--count`, 5 elapses are shown.
 pub record IsAskedBy (question : Question) (known : Known) (style : Style) (asked : Asked) : Type 0 where
@@ -155,27 +282,34 @@ pub record IsAskedBy (question : Question) (known : Known) (style : Style) (aske
   pub targets : asked.targets.now ≡ question.targets.items
   pub count : asked.count ≡ unwrap_or question.count 5
   pub is_all : asked.is_all ≡ question.is_all
+  pub is_strict : asked.is_strict ≡ question.is_strict
   pub is_json : asked.is_json ≡ question.is_json
   pub styled : asked.style ≡ style
 
-abbrev pub IsPrinted : Question → Known → Style → List ℕ → Type 0
-IsPrinted question known style out =
-    (asked : Asked) × IsAskedBy question known style asked × IsOutputOf asked known.loaded out
+-- the answer of the verb to what is known, and then the error lines that don't depend on what the verb answers
+abbrev pub IsAnswerAsked : Question → Known → Asked → Printed → Type 0
+IsAnswerAsked question known asked printed =
+    (answer : Printed) × IsVerbAnswer asked known.index known.loaded answer × (printed ≡ with_common_lines question known answer)
 
--- What is printed for what is known. Nothing is printed if a zone isn't known.
-abbrev pub IsPrintedForKnown : Question → Known → Style → List ℕ → Type 0
-IsPrintedForKnown question known style out =
-    ((clock_zone known.local ≡ None) × (out ≡ []))
-    ⊎ (((clock_zone known.shown ≡ None) × (out ≡ [])) ⊎ IsPrinted question known style out)
+abbrev pub IsAnswerFor : Question → Known → Style → Printed → Type 0
+IsAnswerFor question known style printed =
+    (asked : Asked) × IsAskedBy question known style asked × IsAnswerAsked question known asked printed
 
--- What is printed for what was found. Nothing is printed if the question can't be answered.
-abbrev pub IsPrintedFor : Question → founds.Found → Style → List ℕ → Type 0
-IsPrintedFor question (founds.TheVariants.Unanswerable reason) style out = out ≡ []
-IsPrintedFor question (founds.TheVariants.Answerable known) style out = IsPrintedForKnown question known style out
+-- The answer to what is known. If a zone isn't known, there is only an error line.
+abbrev pub IsAnswerToKnown : Question → Known → Style → Printed → Type 0
+IsAnswerToKnown question known style printed =
+    ((clock_zone known.local ≡ None) × IsStopped (codes "the local zone isn't known") printed)
+    ⊎ (((clock_zone known.shown ≡ None) × IsStopped (codes "the local zone isn't known") printed)
+    ⊎ IsAnswerFor question known style printed)
 
--- What a run prints: there is something that was found, it follows from what the system calls returned (`IsFoundBy`), and
--- what is printed is the report of it.
-pub record IsAnswerOn (gives : Said → Bool) (question : Question) (clock : Option ℤ) (style : Style) (out : List ℕ) : Type 0 where
+-- The answer to what was found. If the question can't be answered, there is only an error line with the reason.
+abbrev pub IsAnswerToFound : Question → founds.Found → Style → Printed → Type 0
+IsAnswerToFound question (founds.TheVariants.Unanswerable reason) style printed = IsStopped (string_bytes reason) printed
+IsAnswerToFound question (founds.TheVariants.Answerable known) style printed = IsAnswerToKnown question known style printed
+
+-- What a run prints: there is something that was found, it follows from what the system calls returned (`IsFoundBy`),
+-- and what is printed is the report of it, with its error lines and its exit status.
+pub record IsAnswerOn (gives : Said → Bool) (question : Question) (clock : Option ℤ) (style : Style) (printed : Printed) : Type 0 where
   pub found : founds.Found
   pub follows : IsFoundBy gives question clock found
-  pub printed : IsPrintedFor question found style out
+  pub answer : IsAnswerToFound question found style printed

@@ -18,8 +18,8 @@ use Rattle.cal_answers.specs.declared.range_zones.RangeZones.{RangeZones}
 abbrev pub last_part : List ℕ → List ℕ
 last_part text = if list_any is_blank text then after_last is_blank text else []
 
--- Each zone of the table, except UTC, is the machine's zone of this name. If the last word of the text has the form of a
--- zone's name, the table lacks this zone only if its file can't be used.
+-- Each zone of the table, except UTC, is the machine's zone of this name. If the last word of the text has the form of
+-- a zone's name, the table lacks this zone only if its file can't be used.
 pub record HasZoneAtEnd (machine : Machine) (text : List ℕ) (table : ZoneMap) : Type 0 where
   pub of_machine : HasZonesOf machine table
   pub lacks : is_zone_name (last_part text) ≡ true → is_some (zone_named table (last_part text)) ≡ false
@@ -37,6 +37,7 @@ range_text verbs.Lint targets index = []
 range_text verbs.Between targets index = text_or_none (slice_get targets index)
 range_text verbs.Same targets index = []
 range_text verbs.Next targets index = []
+range_text verbs.Due targets index = []
 
 -- the zones that the start and the end of the range can name on this machine
 pub record AreRangeZones (machine : Machine) (verb : Verb) (targets : List (List ℕ)) (zones : RangeZones) : Type 0 where

@@ -1,32 +1,24 @@
 -- What a whole run of `calendar-timers` writes, and its exit status: from the arguments to the bytes.
-use Rattle.std.specs.Prelude.{◌≡◌, ◌⊎◌, ℕ, ℤ, Bool, true, false, List, [], ◌∷◌, Option, codes, string_bytes, if◌then◌else◌}
+use Rattle.std.specs.Prelude.{◌≡◌, ◌⊎◌, ◌==◌, ◌&&◌, ℕ, ℤ, Bool, true, false, not, List, [], ◌∷◌, Option, codes, length, if◌then◌else◌}
 use Rattle.std.specs.Io.KnownBytes.{Appends}
 use Rattle.cal_bytes.specs.rules.Bytes.{joined}
 use Rattle.cal_bytes.specs.rules.Writes.{AppendsFront}
 use Rattle.cal_machine.specs.rules.Seen.{Said}
 use Rattle.cal_timers_command.specs.declared.question.Question.{Question}
 use Rattle.cal_timers_command.specs.rules.Asked.{IsFaultOf, IsQuestionOf, help, shown_question, usage}
+use Rattle.cal_timers_command.specs.rules.VerbFirst.{asks_due}
 use Rattle.cal_timers_report.specs.declared.style.Style.{Style}
-use Rattle.cal_answers.specs.declared.answer.Answer.{Answer}
 use Rattle.cal_answers.specs.rules.Output.{IsAnswerOn}
+use Rattle.cal_answers.specs.rules.Printed.{Printed}
 
 -- ## What is to be written
-
--- the texts for standard output and standard error, and the exit status
-pub record Printed : Type 0 where
-  pub out : List ℕ
-  pub err : List ℕ
-  pub status : ℕ
-
-abbrev pub printed_of : Answer → Printed
-printed_of answer = record { out = string_bytes answer.out; err = string_bytes answer.err; status = answer.status }
 
 -- the answer to the question that the arguments ask, at some time of the machine's clock
 pub record IsAnswerTo (gives : Said → Bool) (arguments : List (List ℕ)) (style : Style) (printed : Printed) : Type 0 where
   pub question : Question
   pub asked : IsQuestionOf arguments (shown_question question)
   pub clock : Option ℤ
-  pub answered : IsAnswerOn gives question clock style printed.out
+  pub answered : IsAnswerOn gives question clock style printed
 
 -- the help or the version that the arguments ask for
 pub record IsHelpFor (arguments : List (List ℕ)) (printed : Printed) : Type 0 where
@@ -40,7 +32,7 @@ pub record IsUsageFor (arguments : List (List ℕ)) (printed : Printed) : Type 0
   pub nothing : printed.out ≡ []
   pub status : printed.status ≡ 2
 
--- the line that memory ran out, or that the zone of an expression isn't loaded
+-- the line which says that memory ran out, or that the zone of an expression isn't loaded
 pub record IsGivenUp (printed : Printed) : Type 0 where
   pub nothing : printed.out ≡ []
   pub line : (printed.err ≡ codes "calendar-timers: out of memory\n") ⊎ (printed.err ≡ codes "calendar-timers: a zone isn't loaded\n")
@@ -62,17 +54,24 @@ abbrev pub err_text : Bool → List ℕ → List ℕ
 err_text false err = err
 err_text true err = joined (err ∷ codes "calendar-timers: output failed\n" ∷ [])
 
--- the exit status: 1 if standard output failed
-abbrev pub run_status : Bool → ℕ → ℕ
-run_status is_cut status = if is_cut then 1 else status
+-- the exit status: 255 for an error line of `due`, so that systemd doesn't skip the service silently
+-- (systemd.service(5), ExecCondition=), and otherwise `status`
+abbrev pub status_unless : Bool → Bool → ℕ → ℕ
+status_unless is_due is_error status = if is_due && is_error then 255 else status
 
--- what is written to both outputs, and the exit status; `is_cut` and `is_err_cut` are whether they failed
-pub record Prints (printed : Printed) (status : ℕ) (is_cut is_err_cut : Bool) (out out' err err' : Option (List ℕ)) : Type 0 where
-  pub ended : status ≡ run_status is_cut printed.status
+-- the exit status of a run: if standard output failed, there is an error line, and the status is 1, except for `due`
+abbrev pub run_status : Bool → Bool → Printed → ℕ
+run_status is_due is_cut printed =
+    if is_cut then status_unless is_due true 1 else status_unless is_due (not (length printed.err == 0)) printed.status
+
+-- what is written to both outputs, and the exit status; `is_due` is whether the arguments ask `due`, and `is_cut` and
+-- `is_err_cut` are whether the outputs failed
+pub record Prints (is_due : Bool) (printed : Printed) (status : ℕ) (is_cut is_err_cut : Bool) (out out' err err' : Option (List ℕ)) : Type 0 where
+  pub ended : status ≡ run_status is_due is_cut printed
   pub answer : WritesUnless is_cut out out' printed.out
   pub lines : WritesUnless is_err_cut err err' (err_text is_cut printed.err)
 
 -- A run writes what is to be printed for its arguments.
 abbrev pub IsRunOf : (Said → Bool) → List (List ℕ) → Style → ℕ → Bool → Bool → Option (List ℕ) → Option (List ℕ) → Option (List ℕ) → Option (List ℕ) → Type 0
 IsRunOf gives arguments style status is_cut is_err_cut out out' err err' =
-    (printed : Printed) × IsToPrint gives arguments style printed × Prints printed status is_cut is_err_cut out out' err err'
+    (printed : Printed) × IsToPrint gives arguments style printed × Prints (asks_due arguments) printed status is_cut is_err_cut out out' err err'

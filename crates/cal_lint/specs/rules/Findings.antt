@@ -1,9 +1,9 @@
 -- All problems of the lines of a unit file, in their order: systemd.timer(5), Options, and systemd.syntax(7). An
--- exception is an expression after this project's key `X-ExceptOnCalendar=`. When an exception elapses, the timer
--- doesn't.
-use Rattle.std.specs.Prelude.{ℕ, ◌==◌, Bool, false, true, not, ◌&&◌, ◌||◌, if◌then◌else◌, List, [], ◌∷◌, ◌++◌, codes, length, map, slice_index, Option, None, Some, IfSome, string_bytes, Result, Ok, Err}
+-- exception is an expression after this project's key `X-ExceptOnCalendar=`.
+use Rattle.std.specs.Prelude.{ℕ, ◌==◌, Bool, false, not, ◌&&◌, ◌||◌, if◌then◌else◌, List, [], ◌∷◌, ◌++◌, codes, length, map, slice_index, Option, None, Some, IfSome, string_bytes, Result, Ok, Err}
 use Rattle.std.specs.List.{find, flat_map}
 use Rattle.std.specs.Option.{option_map, option_to_list}
+use Rattle.std.specs.Str.Lines.{lines}
 use Rattle.cal_settings.specs.rules.Settings.{has_percent}
 use Rattle.cal_timer.specs.rules.Lines.{Line, logical_lines}
 use Rattle.cal_spec.specs.computed.Expr.{expr_in}
@@ -16,9 +16,11 @@ use Rattle.cal_timer.specs.declared.fault.TimerFault.{TimerFault}
 use Rattle.cal_read.specs.rules.SectionAssignments.{section_assignments}
 use Rattle.cal_read.specs.rules.TimerFaults.{all_faults, in_file}
 use Rattle.cal_read.specs.declared.texts.FileFault.{FileFault}
+use Rattle.cal_lint.specs.rules.Columns.{column_of, physical_line, value_in}
 use Rattle.cal_lint.specs.rules.Doubts.{doubt_in}
 use Rattle.cal_lint.specs.rules.IgnoredValues.{ignored_setting}
 use Rattle.cal_lint.specs.rules.InstallNames.{has_bad_name}
+use Rattle.cal_lint.specs.rules.Instances.{fits_no_instance}
 use Rattle.cal_lint.specs.rules.OpenSteps.{flaw_in}
 use Rattle.cal_lint.specs.rules.Sections.{PlacedLine, is_bad_header, is_unknown_section, placed_lines}
 use Rattle.cal_lint.specs.rules.Systemd252.{IsNotRejected, rejection_in}
@@ -30,7 +32,7 @@ use Rattle.cal_lint.specs.declared.problems.ProblemKind.{ProblemKind}
 use Rattle.cal_lint.specs.declared.problems.UnitLine.{UnitLine}
 use Rattle.cal_lint.specs.declared.problems.ProblemKind.TheVariants.{Error, Warning}
 use Rattle.cal_lint.specs.declared.problems.Problem.{Problem}
-use Rattle.cal_lint.specs.declared.problems.Problem.TheVariants.{Invalid, UnknownKey, Rejected, Doubtful, BadHeader, UnknownSection, OutsideSection, NoEquals, NoKey, BadUnitName, IgnoredValue, OpenStep}
+use Rattle.cal_lint.specs.declared.problems.Problem.TheVariants.{Invalid, NoInstanceFits, UnknownKey, Rejected, Doubtful, BadHeader, UnknownSection, OutsideSection, NoEquals, NoKey, BadUnitName, IgnoredValue, OpenStep}
 use Rattle.cal_lint.specs.declared.sections.OpenSection.{OpenSection}
 use Rattle.cal_lint.specs.declared.sections.OpenSection.TheVariants.{Outside, Known, Ignored}
 use Rattle.cal_lint.specs.declared.sections.Section.{Section}
@@ -62,7 +64,8 @@ if_valid (Err e) = None
 abbrev pub rejections_of : Assignment → List Problem
 rejections_of a = if is_exception a then [] else option_to_list (option_map Rejected (if_valid (rejection_in a.value)))
 
--- the flaw to report; `FailsAtMidnightChanges` is left out, since few zones set the clock forward at midnight
+-- the flaw to report whatever the zone; not `FailsAtMidnightChanges`, which matters only in zones whose clock is set
+-- forward at midnight: `cal_tasks` reports it for those zones
 abbrev pub reported_flaw : Option OpenStepFlaw → Option OpenStepFlaw
 reported_flaw None = None
 reported_flaw (Some (LosesElapses field)) = Some (LosesElapses field)
@@ -78,8 +81,8 @@ flaws_of a = if is_exception a then [] else option_to_list (option_map OpenStep 
 abbrev pub concerns : Assignment → List Problem
 concerns a = flaws_of a ++ option_to_list (option_map Doubtful (if_valid (doubt_in a.value)))
 
--- the problems of a valid expression or exception: why systemd 252 rejects the expression, and what may be wrong with its
--- meaning; none if the value is not a valid expression
+-- the problems of a valid expression or exception: why systemd 252 rejects the expression, and what may be wrong with
+-- its meaning; none if the value is not a valid expression
 abbrev pub advice : Assignment → List Problem
 advice a = rejections_of a ++ concerns a
 
@@ -87,11 +90,21 @@ abbrev pub value_problems : Option TimerFault → Assignment → List Problem
 value_problems (Some fault) a = Invalid fault ∷ []
 value_problems None a = advice a
 
+-- the problem of an expression or exception whose only specifier is the instance, if no usual instance makes it valid
+abbrev pub instance_problems : Assignment → List Problem
+instance_problems a = if fits_no_instance a.value then NoInstanceFits ∷ [] else []
+
+-- the problem of a setting that isn't checked as an expression, if it has one
+abbrev pub unchecked_problems : Assignment → List Problem
+unchecked_problems a =
+    if is_expression a || is_exception a then instance_problems a
+    else option_to_list (option_map IgnoredValue (ignored_setting a))
+
 -- the problems of a setting in a section `Timer`; `faults` are all errors of the timer that has this setting
 abbrev pub setting_problems : List FileFault → Assignment → List Problem
 setting_problems faults a =
     if is_checked a then value_problems (fault_on faults a.number) a
-    else option_to_list (option_map IgnoredValue (ignored_setting a))
+    else unchecked_problems a
 
 -- the problems of an assignment with a known key in this section
 abbrev pub known_problems : List FileFault → Section → Assignment → List Problem
@@ -99,7 +112,7 @@ known_problems faults Unit a = []
 known_problems faults Timer a = setting_problems faults a
 known_problems faults Install a = if has_bad_name a then BadUnitName ∷ [] else []
 
--- the problems of an assignment in this section
+-- the problems of an assignment in this section; if its key is unknown, this is the only one
 abbrev pub problems_of : List FileFault → Section → Assignment → List Problem
 problems_of faults section a =
     if is_unknown_key section a.key then UnknownKey section ∷ [] else known_problems faults section a
@@ -133,10 +146,12 @@ line_problems faults placed =
     else (if begins_with_bracket placed.line.text then option_to_list (header_problem placed.line.text)
     else plain_problems faults placed.section placed.line)
 
--- invalid or rejected expressions are errors, as are invalid exceptions, headers at which systemd stops reading the file,
--- and names for which `systemctl enable` fails; all other problems are warnings
+-- invalid or rejected expressions are errors, as are invalid exceptions, expressions and exceptions that no usual
+-- instance makes valid, headers at which systemd stops reading the file, and names for which `systemctl enable` fails;
+-- all other problems are warnings
 abbrev pub problem_kind_of : Problem → ProblemKind
 problem_kind_of (Invalid fault) = Error
+problem_kind_of NoInstanceFits = Error
 problem_kind_of (UnknownKey section) = Warning
 problem_kind_of (Rejected rejection) = Error
 problem_kind_of (Doubtful doubt) = Warning
@@ -149,24 +164,33 @@ problem_kind_of BadUnitName = Error
 problem_kind_of (IgnoredValue kind) = Warning
 problem_kind_of (OpenStep flaw) = Warning
 
--- what contracts see of a finding: its line, its kind and its problem
+-- what contracts see of a finding: its line, its column, its kind and its problem
 pub record FoundProblem : Type 0 where
   pub line : ℕ
+  pub column : ℕ
   pub kind : ProblemKind
   pub problem : Problem
 
-abbrev pub problem_at : ℕ → Problem → FoundProblem
-problem_at number problem = record { line = number; kind = problem_kind_of problem; problem = problem }
+abbrev pub problem_at : ℕ → ℕ → Problem → FoundProblem
+problem_at number column problem =
+    record { line = number; column = column; kind = problem_kind_of problem; problem = problem }
+
+-- a problem in the line with this number, whose first physical line and whose value are given
+abbrev pub problem_in : ℕ → List ℕ → List ℕ → Problem → FoundProblem
+problem_in number physical value problem = problem_at number (column_of physical value problem) problem
 
 abbrev pub shown_finding : Finding → FoundProblem
-shown_finding finding = record { line = finding.line; kind = finding.kind; problem = finding.problem }
+shown_finding finding =
+    record { line = finding.line; column = finding.column; kind = finding.kind; problem = finding.problem }
 
 -- no rule of `Systemd252` rejects the suggestion of a finding, if there is one
 abbrev pub HasGoodSuggestion : Finding → Type 0
 HasGoodSuggestion finding = IfSome finding.suggestion (λ text. IsNotRejected (string_bytes text))
 
-abbrev pub found_problems : List FileFault → PlacedLine → List FoundProblem
-found_problems faults placed = map (problem_at placed.line.number) (line_problems faults placed)
+-- the problems of a logical line of a file with these errors and these physical lines
+abbrev pub found_problems : List FileFault → List (List ℕ) → PlacedLine → List FoundProblem
+found_problems faults physical placed =
+    map (problem_in placed.line.number (physical_line physical placed.line.number) (value_in placed.line)) (line_problems faults placed)
 
 -- how contracts see a line with its section: without its physical line, and without its address in memory
 abbrev pub placed_line : UnitLine → PlacedLine
@@ -187,4 +211,4 @@ timer_faults text = map (in_file 0) (all_faults expr_in [] (timer_assignments te
 
 -- the problems of all lines, in order
 abbrev pub findings_in : List ℕ → List FoundProblem
-findings_in text = flat_map (found_problems (timer_faults text)) (unit_lines text)
+findings_in text = flat_map (found_problems (timer_faults text) (lines (without_mark text))) (unit_lines text)

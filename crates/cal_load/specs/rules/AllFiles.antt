@@ -7,6 +7,7 @@ use Rattle.std.specs.Str.{bytes_eq}
 use Rattle.cal_machine.specs.declared.tree.Unreadable.{Unreadable}
 use Rattle.cal_machine.specs.rules.Machine.{Machine}
 use Rattle.cal_unit_index.specs.declared.files.UnitText as texts
+use Rattle.cal_unit_index.specs.declared.unit_type.UnitType.TheVariants.{Timer}
 use Rattle.cal_unit_index.specs.rules.DropIns.{drop_ins}
 use Rattle.cal_unit_index.specs.rules.Files.{FileRead, UnitText, drop_in_bytes, file_at, shown_unit_text, texts_at}
 use Rattle.cal_unit_index.specs.rules.Files.FileRead.{Mask, Unusable, Text}
@@ -37,13 +38,13 @@ paths_of_unit machine path asked Unfound = []
 paths_of_unit machine path asked TemplateOnly = []
 paths_of_unit machine path asked TooManyAliases = []
 paths_of_unit machine path asked (FoundAt file own_file own) =
-    file ∷ (if is_text (file_at machine file) then drop_ins machine path (names_on machine path own_file own asked) else [])
+    file ∷ (if is_text (file_at machine file) then drop_ins machine path Timer (names_on machine path own_file own asked) else [])
 
 -- the paths of the unit that is found for a stem
 abbrev pub unit_paths : Machine → List (List ℕ) → List ℕ → List (List ℕ)
 unit_paths machine path asked = paths_of_unit machine path asked (unit_on machine path asked)
 
--- the paths of a unit by its name; a name that isn't valid has no stem
+-- the paths of the unit with this stem, or none if there is no stem, since the name isn't valid
 abbrev pub paths_if_valid : Machine → List (List ℕ) → Option (List ℕ) → List (List ℕ)
 paths_if_valid machine path None = []
 paths_if_valid machine path (Some stem) = unit_paths machine path stem
@@ -58,7 +59,7 @@ abbrev pub folder_paths : Machine → List ℕ → List (List ℕ)
 folder_paths machine folder =
     paths_in folder (text_names_at machine folder) ++ flat_map (unit_paths machine (folder ∷ [])) (units_in_folder machine folder)
 
--- what a path stands for: the files of a folder, or itself
+-- what a path stands for: the files of a folder, or the path itself
 abbrev pub paths_at : Machine → List ℕ → List (List ℕ)
 paths_at machine path = if is_folder (end_at machine path) then folder_paths machine path else path ∷ []
 
@@ -67,13 +68,13 @@ abbrev pub paths_by : Machine → List (List ℕ) → List ℕ → List (List �
 paths_by machine path target =
     if is_path target then paths_at machine (without_slashes target) else paths_if_valid machine path (unit_stem target)
 
--- the paths of all units that are taken without a target
+-- the paths that are read without a target: those of all units, or only of the units that other units start
 abbrev pub all_paths : Machine → List (List ℕ) → Bool → List (List ℕ)
 all_paths machine path is_all = flat_map (unit_paths machine path) (units_on machine path is_all)
 
 -- ## The files at these paths
 
--- each of the paths once, at its first place
+-- each of the paths once, where it comes first
 abbrev pub each_once : List (List ℕ) → List (List ℕ)
 each_once [] = []
 each_once (path ∷ paths) = path ∷ filter (λ other. not (bytes_eq other path)) (each_once paths)
@@ -88,7 +89,7 @@ AreTextsAt machine paths files = map shown_unit_text files ≡ texts_at machine 
 abbrev pub text_of : List ℕ → FileRead → List UnitText
 text_of path found = option_to_list (option_map (λ bytes. record { path = path; bytes = bytes }) (drop_in_bytes found))
 
--- what a path is remembered to have
+-- what `Reading.seen` stores for a path, given what was found there
 abbrev pub taken_of : FileRead → Taken
 taken_of Mask = taken.TheVariants.Masked
 taken_of (Unusable reason) = taken.TheVariants.Unusable reason
@@ -98,7 +99,7 @@ taken_of (Text bytes) = taken.TheVariants.Read
 abbrev pub with_path : List (List ℕ) → List ℕ → List (List ℕ)
 with_path paths path = if list_any (bytes_eq path) paths then paths else paths ++ path ∷ []
 
--- what is remembered of a path after these paths were tried
+-- what `Reading.seen` has for a path after `paths` were tried
 abbrev pub remembered_of : Machine → List (List ℕ) → List ℕ → Option Taken
 remembered_of machine paths path = if list_any (bytes_eq path) paths then Some (taken_of (file_at machine path)) else None
 
@@ -107,11 +108,12 @@ pub record AreTried (machine : Machine) (paths : List (List ℕ)) (reading : Rea
   pub files : map shown_unit_text reading.loaded.files.items ≡ texts_at machine paths
   pub seen : (path : List ℕ) → get_by_text reading.seen path ≡ remembered_of machine paths path
 
--- some paths were tried, and no others
+-- there are paths for which `AreTried` holds
 abbrev pub HasTried : Machine → Reading → Type 0
 HasTried machine reading = (paths : List (List ℕ)) × AreTried machine paths reading
 
--- between `old` and `new` this path was tried, unless it had been tried before; in either case it is known what is there
+-- between `old` and `new` this path was tried, unless it had been tried before; in either case it is known what is
+-- there
 abbrev pub IsTaken : Machine → List ℕ → Taken → Reading → Reading → Type 0
 IsTaken machine path taken old new =
     (paths : List (List ℕ)) → AreTried machine paths old

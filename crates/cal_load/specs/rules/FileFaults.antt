@@ -1,11 +1,12 @@
--- What can't be read of the files that targets stand for, and which errors say so: systemd.unit(5), Description and Unit
--- File Load Path. A target is how a user names timers, as in `AllTargets`, and its paths are those of `AllFiles`.
+-- What can't be read of the files that targets stand for, and which errors say so: systemd.unit(5), Description and
+-- Unit File Load Path. A target is how a user names timers, as in `AllTargets`, and its paths are those of `AllFiles`.
 use Rattle.std.specs.Prelude.{◌≡◌, ⊤, ◌⊎◌, ℕ, Bool, if◌then◌else◌, List, [], ◌∷◌, ◌++◌, All, Option, None, Some, map, string_bytes}
 use Rattle.std.specs.List.{Contains, flat_map, fold}
 use Rattle.cal_machine.specs.rules.Machine.{Machine}
 use Rattle.cal_machine.specs.rules.Places.{names_at}
 use Rattle.cal_unit_index.specs.declared.fault.Reason.{Reason}
 use Rattle.cal_unit_index.specs.declared.fault.Reason.TheVariants as reasons
+use Rattle.cal_unit_index.specs.declared.unit_type.UnitType.TheVariants.{Timer}
 use Rattle.cal_unit_index.specs.rules.DropIns.{drop_ins, unread_folders}
 use Rattle.cal_unit_index.specs.rules.Files.{FileRead, fault_at, file_at}
 use Rattle.cal_unit_index.specs.rules.Files.FileRead.{Mask, Unusable, Text}
@@ -35,7 +36,7 @@ pub data Cause : Type 0 where
   ManyAliases : Cause
   UnusableAt : (path : List ℕ) → (why : Reason) → Cause
 
--- what can't be read, by the name under which it is reported
+-- something that can't be read: the name under which it is reported, and the cause
 pub record Lost : Type 0 where
   pub name : List ℕ
   pub cause : Cause
@@ -46,7 +47,7 @@ lost_as name (Some cause) = record { name = name; cause = cause } ∷ []
 
 -- ## Files
 
--- the cause that a file is lost, given the reason why what is at its path can't be used
+-- why a file is lost, given the reason why what is at its path can't be used
 abbrev pub cause_of : List ℕ → Reason → Cause
 cause_of path (reasons.Unreadable why) = UnusableAt path (reasons.Unreadable why)
 cause_of path reasons.IsFolder = UnusableAt path reasons.IsFolder
@@ -59,24 +60,25 @@ cause_at path Mask = None
 cause_at path (Unusable why) = Some (cause_of path why)
 cause_at path (Text bytes) = None
 
--- a single file is reported by its path
+-- the file at a path, if it can't be read; it is reported by its path
 abbrev pub lost_file : Machine → List ℕ → List Lost
 lost_file machine path = lost_as path (cause_at path (file_at machine path))
 
 -- ## Units
 
--- a drop-in or a folder is reported by its path
+-- a drop-in or a folder that can't be read; it is reported by its path
 abbrev pub lost_path : Fault → Lost
 lost_path fault = record { name = fault.path; cause = UnusableAt fault.path fault.reason }
 
--- a drop-in that can't be read; a drop-in that is a folder, or a link to nothing, is skipped
+-- the drop-in at a path, if it can't be read; a drop-in that is a folder, or a link to nothing, is skipped
 abbrev pub lost_drop_in : Machine → List ℕ → List Lost
 lost_drop_in machine path = map lost_path (fault_at machine path)
 
 -- what can't be read of the drop-ins of a unit with these names: drop-in folders, and then drop-ins
 abbrev pub lost_drop_ins : Machine → List (List ℕ) → List (List ℕ) → List Lost
 lost_drop_ins machine path names =
-    map lost_path (unread_folders machine path names) ++ flat_map (lost_drop_in machine) (drop_ins machine path names)
+    map lost_path (unread_folders machine path Timer names)
+    ++ flat_map (lost_drop_in machine) (drop_ins machine path Timer names)
 
 -- why a unit is lost, if it is: it isn't found, or its own file is lost
 abbrev pub cause_of_unit : Machine → Unit → Option Cause
@@ -108,7 +110,8 @@ abbrev pub lost_named : Machine → List (List ℕ) → List ℕ → List Lost
 lost_named machine path name =
     lost_if_valid machine path (unit_stem name) ++ lost_as name (cause_if_valid machine path (unit_stem name))
 
--- a unit of the search path that has no file, such as a link to nothing, is skipped
+-- the cause, unless it is `Absent`: a unit of the search path that has no file, for example because it is a link to
+-- nothing, is skipped
 abbrev pub unless_absent : Option Cause → Option Cause
 unless_absent None = None
 unless_absent (Some Absent) = None
@@ -142,7 +145,7 @@ lost_folder machine folder = lost_texts machine folder ++ lost_units machine fol
 abbrev pub lost_at : Machine → List ℕ → List Lost
 lost_at machine path = if is_folder (end_at machine path) then lost_folder machine path else lost_file machine path
 
--- the part that can't be read of what a target stands for
+-- what can't be read of what a target stands for
 abbrev pub lost_by : Machine → List (List ℕ) → List ℕ → List Lost
 lost_by machine path target =
     if is_path target then lost_at machine (without_slashes target) else lost_named machine path target
@@ -151,8 +154,8 @@ lost_by machine path target =
 abbrev pub lost_starts : Machine → List (List ℕ) → List Lost
 lost_starts machine path = map lost_path (unreadable_wants machine path)
 
--- without a target: what can't be read of the units that are taken, and which of the folders that say which units are
--- started can't be read
+-- What can't be read if no target is given: files and drop-ins of the units that are taken, and folders that say which
+-- units are started.
 abbrev pub all_lost : Machine → List (List ℕ) → Bool → List Lost
 all_lost machine path is_all = flat_map (lost_listed machine path) (units_on machine path is_all) ++ lost_starts machine path
 
@@ -174,8 +177,8 @@ pub record IsFaultOf (lost : Lost) (fault : TargetFault) : Type 0 where
 abbrev pub IsFaultOfOne : List Lost → TargetFault → Type 0
 IsFaultOfOne all fault = (lost : Lost) × Contains all lost × IsFaultOf lost fault
 
--- The error's target is `name`, except if a path can't be used: that is reported once, and the target may be another one
--- that leads to the same path.
+-- The error's target is `name`, except if a path can't be used: that is reported once, and the target may be another
+-- one that leads to the same path.
 abbrev pub IsAbout : List ℕ → Cause → TargetFault → Type 0
 IsAbout name Absent fault = string_bytes fault.target ≡ name
 IsAbout name IsTemplate fault = string_bytes fault.target ≡ name
@@ -196,7 +199,7 @@ pub record AreFaultsOf (all : List Lost) (faults : List TargetFault) : Type 0 wh
 
 -- ## Steps
 
--- the reason says this cause, or there is neither a reason nor a cause
+-- the reason states this cause, or there is neither a reason nor a cause
 abbrev pub IsCauseIf : Option Cause → Option TargetReason → Type 0
 IsCauseIf None None = ⊤
 IsCauseIf None (Some reason) = ⊥
@@ -216,7 +219,7 @@ AreReadAlso machine more lost old new =
     (paths : List (List ℕ)) → AreTried machine paths old
     → AreTried machine (fold with_path paths more) new × AreLostAlso lost old.loaded.faults.items new.loaded.faults.items
 
--- as `AreReadAlso`, and the returned reason states the cause; there is no reason if there is no cause
+-- `AreReadAlso` holds, and the returned reason states the cause; there is no reason if there is no cause
 abbrev pub AreReadFor : Machine → List (List ℕ) → List Lost → Option Cause → Option TargetReason → Reading → Reading → Type 0
 AreReadFor machine more lost cause reason old new =
     (paths : List (List ℕ)) → AreTried machine paths old

@@ -19,6 +19,7 @@ use Rattle.cal_timer.specs.rules.TimerEntries.{TimerLine, entries_of}
 use Rattle.cal_timer.specs.rules.TimerView.{shown}
 use Rattle.cal_machine.specs.rules.Machine.{Machine}
 use Rattle.cal_unit_index.specs.declared.files.UnitText as texts
+use Rattle.cal_unit_index.specs.declared.unit_type.UnitType.TheVariants.{Timer}
 use Rattle.cal_unit_index.specs.rules.Files.{UnitText, file_at, shown_unit_text, text_at, texts_at}
 use Rattle.cal_unit_index.specs.rules.Files.FileRead.{Text}
 use Rattle.cal_unit_index.specs.rules.Names.{names_on}
@@ -44,7 +45,7 @@ use Rattle.cal_load.specs.declared.readable.BrokenLine.{BrokenLine}
 -- `asked` the stem by which the unit was asked for.
 abbrev pub unit_texts : Machine → List (List ℕ) → List ℕ → List ℕ → List ℕ → List ℕ → List UnitText
 unit_texts machine path file own_file own asked =
-    text_at machine file ++ texts_at machine (drop_ins machine path (names_on machine path own_file own asked))
+    text_at machine file ++ texts_at machine (drop_ins machine path Timer (names_on machine path own_file own asked))
 
 abbrev pub texts_of_unit : Machine → List (List ℕ) → List ℕ → Unit → List UnitText
 texts_of_unit machine path asked Unfound = []
@@ -113,7 +114,7 @@ exceptions_of_files name files = entries_of expr_in (excepted (timer_assignments
 abbrev pub entries_of_files : List ℕ → List UnitText → List (TimerLine Fields)
 entries_of_files name files = expressions_of_files name files ++ exceptions_of_files name files
 
--- the calendar has those of the timer's expressions and exceptions whose zone is in the table
+-- the calendar has those of the timer's expressions and exceptions that name no zone, or a zone that is in the table
 abbrev pub IsCalendarOf : List ℕ → List UnitText → ZoneMap → calendars.Calendar → Type 0
 IsCalendarOf name files table calendar =
     (expressions_in calendar ≡ filter (has_zone table) (expressions_of_files name files))
@@ -159,8 +160,8 @@ abbrev pub noted_in_files : List ℕ → List UnitText → List Assignment
 noted_in_files name files = unclear_of_files name files ++ notes_in name (timer_assignments name files)
 
 -- These are the files of the timer `name`, with the lines in them that are ignored. systemd reads the timer's own file,
--- the first of them, to the end. A line is ignored because of its zone if the zone isn't in the table. Each line that is
--- ignored is in one of the files.
+-- the first of them, to the end. A line is ignored because of its zone if the zone isn't in the table. Each line that
+-- is ignored is in one of the files.
 pub record AreFilesOf (machine : Machine) (name : List ℕ) (files : List UnitText) (table : ZoneMap) (read : TimerFiles) : Type 0 where
   pub has_texts : map shown_unit_text read.texts.items ≡ files
   pub has_first_lines : AreFirstLines files read.first_lines.items
@@ -179,7 +180,8 @@ pub record IsTimerReadFrom (machine : Machine) (files : List UnitText) (timer : 
   pub has_zones : HasZones machine timer.calendar timer.zones
   pub has_notes : map string_bytes timer.notes.items ≡ map note_text (noted_in_files (string_bytes timer.name) files)
 
--- the timer is the unit that is found for this stem: it has the unit's name, and was read from its file and its drop-ins
+-- the timer is the unit that is found for this stem: it has the unit's name, and was read from its file and its
+-- drop-ins
 abbrev pub IsUnitOn : Machine → List (List ℕ) → List ℕ → LoadedTimer → Type 0
 IsUnitOn machine path asked timer =
     (string_bytes timer.name ≡ name_of_unit (unit_on machine path asked))
@@ -252,8 +254,8 @@ pub record IsTried (machine : Machine) (entries : List (TimerLine Fields)) (foun
   pub zones : HasZonesOf machine found.zones
   pub lines : AreTried machine found.zones entries found.unusable.items
 
--- `new` is the calendar `old` without the expressions and exceptions whose zone can't be used, and has the zones that
--- the others name
+-- `new` is the calendar `old` without the expressions and exceptions whose zone can't be used, and `found` has the
+-- zones that the others name
 pub record IsZoned (machine : Machine) (old new : calendars.Calendar) (found : CalendarZones) : Type 0 where
   pub expressions : expressions_in new ≡ filter (has_zone found.zones) (expressions_in old)
   pub exceptions : exceptions_in new ≡ filter (has_zone found.zones) (exceptions_in old)

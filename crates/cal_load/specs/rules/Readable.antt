@@ -10,6 +10,7 @@ use Rattle.cal_bytes.specs.rules.Trim.{trim_start_matches}
 use Rattle.cal_timer.specs.rules.Assignments.{Assignment, assignments_in, is_header, trimmed}
 use Rattle.cal_timer.specs.rules.Lines.{Line, is_blank_or_return, is_comment, logical_lines}
 use Rattle.cal_timer.specs.rules.TimerText.{without_mark}
+use Rattle.cal_read.specs.rules.SectionAssignments.{section_assignments}
 use Rattle.cal_load.specs.declared.readable.BrokenLine.{BrokenLine}
 use Rattle.cal_load.specs.declared.readable.BrokenReason.{BrokenReason}
 use Rattle.cal_load.specs.declared.readable.BrokenReason.TheVariants.{NotUtf8, BadHeader, TooLong}
@@ -35,7 +36,8 @@ is_clean_utf8 text = is_utf8 text && not (list_any is_noncharacter (chars text))
 abbrev pub line_limit : ℕ
 line_limit = 1_048_576
 
--- why systemd stops at a line with this text, or None if it doesn't; if there are several reasons, the first of `NotUtf8`, `BadHeader` and `TooLong` counts
+-- why systemd stops at a line with this text, or None if it doesn't; if there are several reasons, the first of
+-- `NotUtf8`, `BadHeader` and `TooLong` counts
 unfoldable pub broken_reason : List ℕ → Option BrokenReason
 broken_reason text =
     if is_clean_utf8 text
@@ -60,7 +62,11 @@ broken_lines = filter_map (λ line. option_map (broken_at line) (reason_at line)
 abbrev pub file_lines : ℕ → List ℕ → List Line
 file_lines first bytes = logical_lines first (without_mark bytes)
 
--- the assignments of the section `Timer` that systemd reads: those before the first line at which it stops
+-- the assignments of the sections with this name that systemd reads: those before the first line at which it stops
+unfoldable pub section_read : List ℕ → ℕ → List ℕ → List Assignment
+section_read name first bytes = section_assignments name false (before_first is_broken (file_lines first bytes))
+
+-- the assignments of the section `Timer` that systemd reads
 unfoldable pub assignments_read : ℕ → List ℕ → List Assignment
 assignments_read first bytes = assignments_in false (before_first is_broken (file_lines first bytes))
 

@@ -1,5 +1,5 @@
--- Expressions that never elapse after a base time, and exceptions that suppress none of the next 10,000 elapses of the
--- expressions: systemd.timer(5), OnCalendar=.
+-- Expressions that never elapse after a base time, or for which systemd 252 fails at a midnight that clocks skip, and
+-- exceptions that suppress none of the next 10,000 elapses of the expressions: systemd.timer(5), OnCalendar=.
 use Rattle.std.specs.Prelude.{ℕ, Bool, not, List, [], ◌∷◌, ◌++◌, ℤ, filter, map, slice_get, is_none, take}
 use Rattle.std.specs.List.{list_any}
 use Rattle.std.specs.Ordering.{int_eq}
@@ -10,8 +10,9 @@ use Rattle.cal_elapse.specs.rules.ElapsesAfter.{elapses_after}
 use Rattle.cal_timer.specs.rules.TimerEntries.{TimerLine, Timer}
 use Rattle.cal_plan.specs.rules.TimerElapses.{elapses_of_lists, timed_entry}
 use Rattle.cal_tasks.specs.declared.idle.IdleKind.{IdleKind}
-use Rattle.cal_tasks.specs.declared.idle.IdleKind.TheVariants.{NeverElapses, SuppressesNothing}
+use Rattle.cal_tasks.specs.declared.idle.IdleKind.TheVariants.{NeverElapses, StopsAtMidnight, SuppressesNothing}
 use Rattle.cal_tasks.specs.declared.idle.IdleLine.{IdleLine}
+use Rattle.cal_tasks.specs.rules.Midnight.{stops_at_midnight}
 
 -- the number of elapses with which an exception is compared; what it suppresses later isn't considered
 abbrev pub max_elapses : ℕ
@@ -45,9 +46,11 @@ idle_as kind test lines = map (idle_line kind) (filter test lines)
 abbrev pub suppresses_nothing : Setting → ℤ → List ℤ → TimerLine Fields → Bool
 suppresses_nothing at base numbers line = not (has_any at base numbers line)
 
--- the lines that are reported as having no effect: first the expressions that never elapse after `base`, and then the
--- exceptions that suppress none of the `next_elapses` of the expressions
+-- the lines that are reported as having no effect: first the expressions that never elapse after `base`, then those for
+-- which systemd 252 fails at a midnight that clocks skip, and then the exceptions that suppress none of the
+-- `next_elapses` of the expressions
 abbrev pub idle_lines : Setting → ℤ → Timer Fields → List IdleLine
 idle_lines at base lists =
-    idle_as NeverElapses (never_elapses at base) lists.expressions
+    (idle_as NeverElapses (never_elapses at base) lists.expressions
+    ++ idle_as StopsAtMidnight (stops_at_midnight at base) lists.expressions)
     ++ idle_as SuppressesNothing (suppresses_nothing at base (next_elapses at base lists.expressions)) lists.exceptions

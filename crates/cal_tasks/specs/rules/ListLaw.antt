@@ -1,7 +1,5 @@
--- What the report of `list` has, said without the order in which it is made: the row of each unit, and which rows come
--- first (systemd.timer(5), OnCalendar=).
-use Rattle.std.specs.Prelude.{◌≡◌, ℤ, List, [], ◌∷◌, ◌++◌, Option, None, Some, map, int_le, IsTrue}
-use Rattle.std.specs.List.{AllByRecursion}
+-- The row of each timer in the report of `list`, whatever the order of the rows is (systemd.timer(5), OnCalendar=).
+use Rattle.std.specs.Prelude.{ℤ, List, [], ◌∷◌}
 use Rattle.cal_load.specs.declared.loaded.Loaded.{Loaded}
 use Rattle.cal_load.specs.declared.loaded.LoadedTimer.{LoadedTimer}
 use Rattle.cal_timers_report.specs.rules.ReportView.{UnitView}

@@ -15,9 +15,10 @@ use Rattle.cal_tasks.specs.declared.clock_note.ClockChange.TheVariants.{Skipped,
 use Rattle.cal_tasks.specs.declared.clock_note.ClockNote.{ClockNote}
 use Rattle.cal_tasks.specs.declared.clocked.Clocked.{Clocked}
 use Rattle.cal_tasks.specs.rules.ClockNotes.{AreNotesOf, IsNoteAmong, by_local, limit_if, max_notes}
+use Rattle.cal_tasks.specs.rules.LastElapse.{IsLastOf, timed_exceptions}
 use Rattle.cal_tasks.specs.rules.LoadedElapses.{elapses_in, setting_for}
 
--- where the line with this continued number is: in one of the timer's files, or in none
+-- where the line with this continued number is; None if no file has it, or if its number in the file needs over 32 bits
 abbrev pub IsPlaceOf : TimerFiles → ℕ → Option PlaceView → Type 0
 IsPlaceOf files number None =
     (path : List ℕ) (line : ℕ) → IsPosition files.texts.items files.first_lines.items number path line → 2 ^ 32 ≤ line
@@ -51,8 +52,9 @@ pub record AreFirstNotes (at : Clocked) (timer : LoadedTimer) (has_more : Bool) 
   pub few : length notes ≤ max_notes
   pub sorted : IsSorted by_local notes
 
--- The report of a timer: its files, its expressions and exceptions, its other settings, these warnings, its first `count`
--- elapses after the present, and the local times that the next clock changes skip or repeat.
+-- The report of a timer: its files, its expressions and exceptions, its other settings, these warnings, its last elapse
+-- up to the present, its first `count` elapses after the present, and the local times that the next clock changes skip
+-- or repeat.
 pub record IsShownTimer (at : Clocked) (count : ℕ) (warnings : List (List ℕ)) (timer : LoadedTimer) (view : TimerView) : Type 0 where
   pub unit : view.unit ≡ string_bytes timer.name
   pub files : view.files ≡ map (λ file. string_bytes file.path) timer.files.texts.items
@@ -60,6 +62,7 @@ pub record IsShownTimer (at : Clocked) (count : ℕ) (warnings : List (List ℕ)
   pub exceptions : AllZip (IsShownLine timer) (exceptions_in timer.calendar) view.exceptions
   pub notes : view.notes ≡ map string_bytes timer.notes.items
   pub warned : view.warnings ≡ warnings
+  pub last : IsLastOf at timer (timed_exceptions at timer) view.last
   pub elapses : view.elapses ≡ take count (elapses_in at at.now.secs timer)
   pub changes : List ClockNote
   pub noted : AreFirstNotes at timer view.has_more_clock changes

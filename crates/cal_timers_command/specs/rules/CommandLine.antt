@@ -6,9 +6,9 @@ use Rattle.clap.specs.declared.builder.action.ArgAction.{ArgAction}
 use Rattle.clap.specs.declared.builder.action.ArgAction.TheVariants.{Append, Set, SetTrue}
 use Rattle.cal_timers_command.specs.declared.arguments.Argument.{Argument}
 use Rattle.cal_timers_command.specs.declared.arguments.ArgumentForm.{ArgumentForm}
-use Rattle.cal_timers_command.specs.declared.arguments.ArgumentForm.TheVariants.{Value, ShortValue, Flag, ShortFlag, One, Any, AtLeastOne}
+use Rattle.cal_timers_command.specs.declared.arguments.ArgumentForm.TheVariants.{Value, ShortValue, Flag, ShortFlag, One, AtMostOne, Any, AtLeastOne}
 use Rattle.cal_timers_command.specs.declared.question.Verb.{Verb}
-use Rattle.cal_timers_command.specs.declared.question.Verb.TheVariants.{List, Show, Lint, Between, Same, Next}
+use Rattle.cal_timers_command.specs.declared.question.Verb.TheVariants.{List, Show, Lint, Between, Same, Next, Due}
 use Rattle.cal_timers_command.specs.rules.Verbs.{all_verbs, verb_name}
 use Rattle.cal_timers_command.specs.rules.VerbFirst.{needs_value}
 
@@ -32,6 +32,7 @@ rule_for name (ShortValue short) = value_rule name (Some short)
 rule_for name Flag = flag_rule name None
 rule_for name (ShortFlag short) = flag_rule name (Some short)
 rule_for name One = target_rule name Set true
+rule_for name AtMostOne = target_rule name Set false
 rule_for name Any = target_rule name Append false
 rule_for name AtLeastOne = target_rule name Append true
 
@@ -69,9 +70,13 @@ shared_rules = zone_rules ++ in_rule ∷ place_rules ++ user_rule ∷ json_rule 
 abbrev pub pair_rules : ListOf Rule
 pair_rules = target_rule (codes "first") Set true ∷ target_rule (codes "second") Set true ∷ []
 
--- any number of targets
+-- any number of targets, which may be none
 abbrev pub any_targets : Rule
 any_targets = target_rule (codes "target") Append false
+
+-- at most one target
+abbrev pub one_target : Rule
+one_target = target_rule (codes "target") Set false
 
 -- at least one target
 abbrev pub some_targets : Rule
@@ -85,6 +90,7 @@ verb_rules Show = count_rule ∷ shared_rules ++ some_targets ∷ []
 verb_rules Between = pair_rules ++ all_rule ∷ shared_rules ++ any_targets ∷ []
 verb_rules Same = pair_rules ++ shared_rules
 verb_rules Next = count_rule ∷ zone_rules ++ in_rule ∷ place_rules ++ json_rule ∷ some_targets ∷ []
+verb_rules Due = shared_rules ++ one_target ∷ []
 
 abbrev pub has_value : Option ArgAction → Bool
 has_value (Some Set) = true
@@ -117,11 +123,11 @@ program_shape = record (new_app (codes "calendar-timers")).top {
 abbrev pub command_app : App
 command_app = record { top = record program_shape { is_leaf = false }; subs = map verb_shape all_verbs }
 
--- adds options and positional arguments to the command
+-- the command with these options and positional arguments after those that it has
 abbrev pub with_rules : App → ListOf Rule → App
 with_rules app rules = record app { top = record app.top { rules = app.top.rules ++ rules } }
 
--- adds subcommands to the command
+-- the command with these subcommands in addition to those that it has
 abbrev pub with_subcommands : App → ListOf Shape → App
 with_subcommands app [] = app
 with_subcommands app (shape ∷ shapes) = with_subcommands (with_subcommand app shape) shapes

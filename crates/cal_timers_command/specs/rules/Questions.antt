@@ -2,7 +2,7 @@
 -- verb), and the texts of the errors that parsing the arguments can return.
 use Rattle.std.specs.Prelude.{◌≡◌, ℕ, ◌≤◌, ◌==◌, Bool, true, nat_le, ◌<◌, ⊤, List as ListOf, codes, length, string_bytes}
 use Rattle.cal_timers_command.specs.declared.question.Verb.{Verb}
-use Rattle.cal_timers_command.specs.declared.question.Verb.TheVariants.{List, Show, Lint, Between, Same, Next}
+use Rattle.cal_timers_command.specs.declared.question.Verb.TheVariants.{List, Show, Lint, Between, Same, Next, Due}
 use Rattle.cal_timers_command.specs.declared.command_fault.CommandFault.{CommandFault}
 use Rattle.cal_timers_command.specs.declared.command_fault.CommandFault.TheVariants.{Usage, Help, NoMemory}
 
@@ -23,6 +23,7 @@ fits_verb Lint count = true
 fits_verb Between count = nat_le 2 count
 fits_verb Same count = count == 2
 fits_verb Next count = nat_le 1 count
+fits_verb Due count = nat_le count 1
 
 -- the text to print isn't empty; `NoMemory` has no text
 abbrev pub HasText : CommandFault → Type 0

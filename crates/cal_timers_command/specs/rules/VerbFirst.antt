@@ -31,7 +31,7 @@ abbrev pub is_option : Text → Bool
 is_option argument =
     (get_or argument 0 0 == 45 && nat_lt 1 (length argument)) && not (is_among (codes "--" ∷ help_options) argument)
 
--- `clap` takes the argument for a verb, to which it adds the verb `help`, or for a request for help or the version
+-- `clap` takes the argument for a verb, among them `help`, which `clap` adds, or for a request for help or the version
 abbrev pub leads : Text → Bool
 leads argument = is_among (codes "help" ∷ help_options) argument || is_some (verb_named argument)
 
@@ -51,9 +51,14 @@ first_failing test zero = None
 first_failing test (suc count) =
     option_map_or (λ index. Some index) (first_failing test count) (if test count then None else Some count)
 
--- the index of the first argument that is neither an option nor the value of an option
+-- the index of the first argument that is neither an option, in the sense of `is_option`, nor the value of an option
 abbrev pub first_word : List Text → Option ℕ
 first_word arguments = first_failing (is_passed arguments) (length arguments)
+
+-- the verb that the arguments begin with, options aside, is `due`
+unfoldable pub asks_due : List Text → Bool
+asks_due arguments =
+    option_map_or (λ index. bytes_eq (get_or arguments index []) (codes "due")) (first_word arguments) false
 
 abbrev pub moved_first : List Text → ℕ → List Text
 moved_first arguments index =

@@ -1,4 +1,4 @@
--- Examples of arguments, with the verb moved to the front, and for some of them what they ask.
+-- Examples of arguments, and the questions of verbs without options.
 use Rattle.std.specs.Prelude.{ℕ, List as ListOf, [], ◌∷◌, None, codes, false}
 use Rattle.cal_timers_command.specs.declared.question.Verb.{Verb}
 use Rattle.cal_timers_command.specs.rules.Asked.{Question}
@@ -38,6 +38,18 @@ count_arguments = codes "-n" ∷ codes "3" ∷ codes "next" ∷ codes "daily" �
 -- `between -- -5 now`
 abbrev pub range_arguments : ListOf (ListOf ℕ)
 range_arguments = codes "between" ∷ codes "--" ∷ codes "-5" ∷ codes "now" ∷ []
+
+-- `due`
+abbrev pub due_arguments : ListOf (ListOf ℕ)
+due_arguments = codes "due" ∷ []
+
+-- `--utc due backup`
+abbrev pub due_unit_arguments : ListOf (ListOf ℕ)
+due_unit_arguments = codes "--utc" ∷ codes "due" ∷ codes "backup" ∷ []
+
+-- `due backup clean`, which has one unit too many
+abbrev pub due_two_arguments : ListOf (ListOf ℕ)
+due_two_arguments = codes "due" ∷ codes "backup" ∷ codes "clean" ∷ []
 
 -- `--utc --zone=UTC list`, whose options exclude each other
 abbrev pub clash_arguments : ListOf (ListOf ℕ)

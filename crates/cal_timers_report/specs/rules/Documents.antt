@@ -6,8 +6,8 @@ use Rattle.json.specs.Json.{Json, boolean, string}
 use Rattle.cal_zone.specs.declared.zone.Zone.{Zone}
 use Rattle.cal_zone.specs.rules.InstantText.{instant_text}
 use Rattle.cal_timers_report.specs.rules.JsonParts.{array_of, integer, json_document, list_of, natural, object_of, or_null}
-use Rattle.cal_timers_report.specs.rules.JsonTimes.{left_span, local_time_text}
-use Rattle.cal_timers_report.specs.rules.ReportView.{UnitView, TimerView, LineView, ClockTimeView, ElapseView, SideView, ComparisonView, ProblemView}
+use Rattle.cal_timers_report.specs.rules.JsonTimes.{ago_span, left_span, local_time_text}
+use Rattle.cal_timers_report.specs.rules.ReportView.{UnitView, TimerView, LineView, ClockTimeView, ElapseView, SideView, ComparisonView, ProblemView, DueView}
 
 -- ## list
 
@@ -79,9 +79,29 @@ comparison_members zone found = (
     ∷ (codes "settings", array_of (settings_of found.one ++ settings_of found.other))
     ∷ [])
 
--- an object
+-- an object that says whether two timers elapse at the same instants, and what only one of them has
 abbrev pub same_document : Zone → ComparisonView → List ℕ
 same_document zone found = json_document (object_of (comparison_members zone found))
+
+-- ## due
+
+-- an instant, as clocks in the zone show it and in seconds of Unix time
+abbrev pub instant_members : Zone → ℤ → List (List ℕ × Json)
+instant_members zone secs = ((codes "local", string (instant_text zone secs)) ∷ (codes "unix", integer secs) ∷ [])
+
+abbrev pub instant_json : Zone → ℤ → Json
+instant_json zone secs = object_of (instant_members zone secs)
+
+abbrev pub due_members : Zone → DueView → List (List ℕ × Json)
+due_members zone view = (
+    (codes "unit", or_null string view.unit)
+    ∷ (codes "due", boolean view.is_due)
+    ∷ (codes "elapse", or_null (instant_json zone) view.elapse)
+    ∷ [])
+
+-- an object that says whether the run of a service that starts now is due
+abbrev pub due_document : Zone → DueView → List ℕ
+due_document zone view = json_document (object_of (due_members zone view))
 
 -- ## lint
 
@@ -129,6 +149,17 @@ elapse_members zone now secs = (
 abbrev pub elapse_json : Zone → ℤ → ℤ → Json
 elapse_json zone now secs = object_of (elapse_members zone now secs)
 
+-- the last elapse
+abbrev pub last_members : Zone → ℤ → ℤ → List (List ℕ × Json)
+last_members zone now secs = (
+    (codes "local", string (instant_text zone secs))
+    ∷ (codes "unix", integer secs)
+    ∷ (codes "ago", string (ago_span now secs))
+    ∷ [])
+
+abbrev pub last_json : Zone → ℤ → ℤ → Json
+last_json zone now secs = object_of (last_members zone now secs)
+
 abbrev pub change_of : Bool → List ℕ
 change_of is_skipped = if is_skipped then codes "skipped" else codes "repeated"
 
@@ -149,6 +180,7 @@ timer_members zone now timer = (
     ∷ (codes "files", list_of string timer.files)
     ∷ (codes "expressions", list_of line_json timer.expressions)
     ∷ (codes "exceptions", list_of line_json timer.exceptions)
+    ∷ (codes "last", or_null (last_json zone now) timer.last)
     ∷ (codes "elapses", list_of (elapse_json zone now) timer.elapses)
     ∷ (codes "notes", list_of string timer.notes)
     ∷ (codes "warnings", list_of string timer.warnings)

@@ -17,6 +17,10 @@ span_between now secs = span_text (unsigned_abs (secs -ℤ now) * 1_000_000)
 abbrev pub left_span : ℤ → ℤ → List ℕ
 left_span now secs = if int_lt now secs then span_between now secs else codes "0"
 
+-- how long ago an instant was, or `0` if it isn't earlier than `now`
+abbrev pub ago_span : ℤ → ℤ → List ℕ
+ago_span now secs = left_span secs now
+
 -- the weekday, the date and the time of day, as in `Sun 2027-03-28 02:30:00`
 abbrev pub civil_text : Civil → List ℕ
 civil_text shown =
@@ -32,6 +36,6 @@ abbrev pub nearest_instant : ℤ → ℤ
 nearest_instant secs = int_max (pos 0) (int_min secs last_instant)
 
 -- A local time is given in seconds since 1970-01-01 00:00:00 on the clock that shows it. So it is what a clock in UTC
--- shows at the instant with this number.
+-- shows at the instant with the same number of seconds.
 abbrev pub local_time_text : ℤ → List ℕ
 local_time_text local = utc_clock_text (nearest_instant local)

@@ -1,5 +1,5 @@
 -- Reports as plain data: texts are lists of bytes, and instants are seconds of Unix time.
-use Rattle.std.specs.Prelude.{ℕ, ℤ, Bool, List, Option, map, option_map, string_bytes}
+use Rattle.std.specs.Prelude.{ℕ, ℤ, Bool, true, false, List, Option, None, Some, map, option_map, string_bytes}
 use Rattle.cal_spec.specs.rules.ExprText.{expr_text}
 use Rattle.cal_timers_report.specs.declared.report.ListRow.{ListRow}
 use Rattle.cal_timers_report.specs.declared.report.ShownTimer.{ShownTimer}
@@ -10,8 +10,11 @@ use Rattle.cal_timers_report.specs.declared.report.UnitElapse.{UnitElapse}
 use Rattle.cal_timers_report.specs.declared.report.Comparison.{Comparison}
 use Rattle.cal_timers_report.specs.declared.report.Side.{Side}
 use Rattle.cal_timers_report.specs.declared.report.ProblemRow.{ProblemRow}
+use Rattle.cal_timers_report.specs.declared.due.DueReport.{DueReport}
+use Rattle.cal_timers_report.specs.declared.due.DueVerdict.{DueVerdict}
+use Rattle.cal_timers_report.specs.declared.due.DueVerdict.TheVariants.{ByHand, Due, Excepted, NotElapsed}
 
--- a unit of `list`
+-- a row in the report of the verb `list`: a unit, its next elapse and its notes
 pub record UnitView : Type 0 where
   pub unit : List ℕ
   pub next : Option ℤ
@@ -50,7 +53,7 @@ pub record ClockTimeView : Type 0 where
 abbrev pub clock_time_seen : ClockTime → ClockTimeView
 clock_time_seen time = record { local = time.local; is_skipped = time.is_skipped; zone = option_map (λ name. name.now) time.zone }
 
--- a timer of `show` and `next`
+-- a timer in the report of `show` and `next`
 pub record TimerView : Type 0 where
   pub unit : List ℕ
   pub files : List (List ℕ)
@@ -58,6 +61,7 @@ pub record TimerView : Type 0 where
   pub exceptions : List LineView
   pub notes : List (List ℕ)
   pub warnings : List (List ℕ)
+  pub last : Option ℤ
   pub elapses : List ℤ
   pub clock : List ClockTimeView
   pub has_more_clock : Bool
@@ -68,14 +72,15 @@ timer_seen timer = record {
   files = map (λ file. file.now) timer.files.items;
   expressions = map line_seen timer.expressions.items;
   exceptions = map line_seen timer.exceptions.items;
-  notes = map string_bytes timer.notes.now;
+  notes = map (λ note. note.now) timer.notes.items;
   warnings = map string_bytes timer.warnings.items;
+  last = option_map (λ instant. instant.secs) timer.last;
   elapses = map (λ instant. instant.secs) timer.elapses.items;
   clock = map clock_time_seen timer.clock.items;
   has_more_clock = timer.has_more_clock;
 }
 
--- an elapse of `between`
+-- an elapse in the report of `between`
 pub record ElapseView : Type 0 where
   pub unit : List ℕ
   pub secs : ℤ
@@ -83,7 +88,7 @@ pub record ElapseView : Type 0 where
 abbrev pub elapse_seen : UnitElapse → ElapseView
 elapse_seen elapse = record { unit = elapse.unit.now; secs = elapse.instant.secs }
 
--- what only one of the two timers of `same` has
+-- what only one of the two timers in the report of `same` has
 pub record SideView : Type 0 where
   pub unit : List ℕ
   pub only : Option ℤ
@@ -103,7 +108,7 @@ pub record ComparisonView : Type 0 where
 abbrev pub comparison_seen : Comparison → ComparisonView
 comparison_seen found = record { one = side_seen found.one; other = side_seen found.other }
 
--- a problem of `lint`
+-- a problem in the report of `lint`
 pub record ProblemView : Type 0 where
   pub file : List ℕ
   pub line : Option ℕ
@@ -120,4 +125,30 @@ problem_seen row = record {
   is_error = row.is_error;
   message = row.message.now;
   suggestion = option_map (λ text. text.now) row.suggestion;
+}
+
+-- whether the run of a service that starts now is due, and the last elapse of the timer's expressions
+pub record DueView : Type 0 where
+  pub unit : Option (List ℕ)
+  pub is_due : Bool
+  pub elapse : Option ℤ
+
+-- a run that no timer has started is due
+abbrev pub is_due : DueVerdict → Bool
+is_due ByHand = true
+is_due (Due instant) = true
+is_due (Excepted instant) = false
+is_due NotElapsed = false
+
+abbrev pub elapse_of : DueVerdict → Option ℤ
+elapse_of ByHand = None
+elapse_of (Due instant) = Some instant.secs
+elapse_of (Excepted instant) = Some instant.secs
+elapse_of NotElapsed = None
+
+abbrev pub due_seen : DueReport → DueView
+due_seen report = record {
+  unit = option_map (λ name. name.now) report.unit;
+  is_due = is_due report.verdict;
+  elapse = elapse_of report.verdict;
 }

@@ -14,7 +14,7 @@ use Rattle.cal_timers_report.specs.rules.Columns.{blanks, padded, widest}
 use Rattle.cal_timers_report.specs.rules.Emphasis.{begin_text, end_text}
 use Rattle.cal_timers_report.specs.rules.PrintableText.{printable_text}
 use Rattle.cal_timers_report.specs.rules.ReportView.{ClockTimeView, LineView, TimerView}
-use Rattle.cal_timers_report.specs.rules.TimeLeft.{two_units}
+use Rattle.cal_timers_report.specs.rules.TimeLeft.{time_ago, two_units}
 
 -- ## Labels
 
@@ -37,6 +37,20 @@ text_line text = printable_text text ++ codes "\n"
 -- a line for each text, with the label before the first line
 unfoldable pub texts_under : List ℕ → List (List ℕ) → List ℕ
 texts_under label texts = lines_under label text_line texts
+
+-- ## Last elapse
+
+-- the instant, two spaces, and how long ago it was, or `never` if there is none
+abbrev pub last_text : Zone → ℤ → Option ℤ → List ℕ
+last_text zone now None = codes "never\n"
+last_text zone now (Some secs) = instant_text zone secs ++ (codes "  " ++ (time_ago now secs ++ codes "\n"))
+
+abbrev pub last_or_never : Zone → ℤ → Option ℤ → List ℕ
+last_or_never zone now last = labeled (codes "  Last:") (last_text zone now last)
+
+-- the last elapse; nothing for a timer without expressions
+unfoldable pub last_line : Zone → ℤ → List LineView → Option ℤ → List ℕ
+last_line zone now expressions last = if length expressions == 0 then [] else last_or_never zone now last
 
 -- ## Next elapses
 
@@ -65,7 +79,7 @@ next_lines zone now expressions elapses = if length expressions == 0 then [] els
 
 -- ## Clock changes
 
--- the date and the time of a local time, which is a number of seconds since 1970-01-01 00:00:00 on the same clock
+-- the date and the time of a local time, which is a number of seconds since 1970-01-01 00:00:00 on its clock
 abbrev pub local_civil : ℤ → Civil
 local_civil local = civil_of (zone_of utc) local
 
@@ -85,7 +99,7 @@ civil_time civil = time_text civil.hour civil.minute civil.second
 unfoldable pub change_text : Bool → List ℕ
 change_text is_skipped = if is_skipped then codes " is skipped on " else codes " occurs twice on "
 
--- the end of the line, after the date; of a local time that occurs twice, it says which one can be an elapse
+-- the end of the line, after the date; for a local time that occurs twice, it says which occurrence can be an elapse
 unfoldable pub change_end : Bool → List ℕ
 change_end is_skipped = if is_skipped then codes "\n" else codes "; the first counts\n"
 
@@ -101,14 +115,15 @@ clock_text time civil =
     ++ (change_text time.is_skipped
     ++ (date_text civil ++ change_end time.is_skipped)))
 
--- what is printed if the local time can't be
+-- what is printed for a local time whose date can't be printed
 unfoldable pub far_clock_text : ClockTimeView → List ℕ
 far_clock_text time = codes "a time out of range" ++ (zone_suffix time.zone ++ far_change_text time.is_skipped)
 
 abbrev pub clock_line : ClockTimeView → List ℕ
 clock_line time = if is_out_of_range time.local then far_clock_text time else clock_text time (local_civil time.local)
 
--- a line that says that there are more local times than the lines before it have; it has the label if there are none
+-- a line that says that there are more local times than those in the lines before it; it has the label if it is the
+-- first line
 abbrev pub more_line : List ClockTimeView → List ℕ
 more_line clock = labeled (if length clock == 0 then codes "  Clock:" else []) (codes "and more\n")
 
@@ -137,8 +152,9 @@ timer_text style zone now timer =
     name_line style timer.unit
     ++ (settings_lines timer
     ++ (texts_under (codes "  Warning:") timer.warnings
+    ++ (last_line zone now timer.expressions timer.last
     ++ (next_lines zone now timer.expressions timer.elapses
-    ++ clock_lines timer.clock timer.has_more_clock)))
+    ++ clock_lines timer.clock timer.has_more_clock))))
 
 abbrev pub masked_line : List ℕ → List ℕ
 masked_line name = printable_text name ++ codes ": masked\n"

@@ -4,6 +4,7 @@
 //! the names and the order of their members, is this project's own choice.
 
 mod between;
+mod due;
 mod lint;
 mod list;
 mod same;
@@ -12,6 +13,7 @@ mod times;
 mod to_json;
 
 pub use between::between_json;
+pub use due::due_json;
 pub use lint::lint_json;
 pub use list::list_json;
 pub use same::same_json;

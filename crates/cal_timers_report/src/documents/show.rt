@@ -4,7 +4,7 @@ ghost use Rattle.std.specs.Prelude.{◌≡◌, ◌++◌, ◌∷◌, [], IfOk, On
 ghost use Rattle.json.specs.Json.{string};
 ghost use Rattle.json.specs.Token.{key};
 ghost use Rattle.json.specs.Tree.{json_tokens};
-ghost use Rattle.cal_timers_report.specs.rules.Documents.{change_of, clock_time_json, elapse_json, line_json, show_document, timer_json};
+ghost use Rattle.cal_timers_report.specs.rules.Documents.{change_of, clock_time_json, elapse_json, last_json, line_json, show_document, timer_json};
 ghost use Rattle.cal_timers_report.specs.rules.JsonParts.{list_of, natural, or_null};
 ghost use Rattle.cal_timers_report.specs.rules.JsonTimes.{local_time_text};
 ghost use Rattle.cal_timers_report.specs.rules.ReportView.{clock_time_seen, line_seen, place_seen, timer_seen};
@@ -18,12 +18,14 @@ use std::alloc::{AllocError, Global};
 
 /// Returns the document of `show` and `next`: an array with an object for each timer, in the order given.
 ///
-/// The members of an object are `unit`, `files`, `expressions`, `exceptions`, `elapses`, `notes`, `warnings` and
-/// `clock`. All but `unit` are arrays, and those of `files`, `notes` and `warnings` have strings. The others have
-/// objects:
+/// The members of an object are `unit`, `files`, `expressions`, `exceptions`, `last`, `elapses`, `notes`, `warnings` and
+/// `clock`. All but `unit` and `last` are arrays, and those of `files`, `notes` and `warnings` have strings. The others
+/// have objects:
 ///
 /// - For an expression or an exception: `text` (as it is written), `normal` (its normal form), `file` and `line`. The
 ///   last two are `null` if the expression isn't from a file.
+/// - For the last elapse: `local` and `unix`, as for an elapse, and `ago` (the time span from the last elapse to `now`, or
+///   `0` if it isn't earlier than `now`). If there is no last elapse, `last` is `null`.
 /// - For an elapse: `local` (the elapse as clocks in `zone` show it), `unix` (the elapse in seconds of Unix time) and
 ///   `left` (the time span from `now` to the elapse, or `0` if it isn't later than `now`).
 /// - For a local time in `clock`: `local`, `change` (`skipped` or `repeated`) and `zone`, which is `null` for the local
@@ -74,6 +76,7 @@ fn put_timer(
     put_member(out, "files", &timer.files)?;
     put_lines(alloc, out, "expressions", &timer.expressions)?;
     put_lines(alloc, out, "exceptions", &timer.exceptions)?;
+    put_last(out, zone, now, timer.last)?;
     put_elapses(out, zone, now, &timer.elapses)?;
     put_member(out, "notes", &timer.notes)?;
     put_member(out, "warnings", &timer.warnings)?;
@@ -129,6 +132,49 @@ fn put_number(out: &mut Pretty, place: Option<Place<'_>>) -> Result<(), AllocErr
         Some(place) => put_member(out, "line", &place.line),
         None => put_null(out, "line"),
     }
+}
+
+fn put_last(
+    out: &mut Pretty,
+    zone: Zone<'_>,
+    now: Instant,
+    last: Option<Instant>,
+) -> Result<(), AllocError>
+    ensures { OnOk result (out.new ≡ out.old ++ key (codes "last") ∷ []
+        ++ json_tokens (or_null (last_json zone.entry now.secs) (option_map (λ instant. instant.secs) last))) }
+{
+    let Some(instant) = last else {
+        return put_null(out, "last");
+    };
+    out.token(Token::Key("last"))?;
+    put_last_elapse(out, zone, now, instant)
+}
+
+fn put_last_elapse(
+    out: &mut Pretty,
+    zone: Zone<'_>,
+    now: Instant,
+    then: Instant,
+) -> Result<(), AllocError>
+    ensures { OnOk result (out.new ≡ out.old ++ json_tokens (last_json zone.entry now.secs then.secs)) }
+{
+    out.token(Token::BeginObject)?;
+    put_member(
+        out,
+        "local",
+        &InZone {
+            zone,
+            instant: then,
+        },
+    )?;
+    put_member(out, "unix", &UnixTime(then))?;
+    // How long it is from the last elapse until the present.
+    let ago = TimeLeft {
+        now: then,
+        then: now,
+    };
+    put_member(out, "ago", &ago)?;
+    out.token(Token::EndObject)
 }
 
 fn put_elapses(

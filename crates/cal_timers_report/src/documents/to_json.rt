@@ -12,16 +12,16 @@ use std::alloc::AllocError;
 
 /// A type whose values can be written as JSON.
 pub(crate) trait ToJson {
-    /// Values as plain data: the type of what a document says of a value.
+    /// The type of a value's plain data.
     ghost Shown: { Type 0 };
 
-    /// What a document says of a value.
+    /// Returns the plain data of a value: what a document says about the value.
     ghost shown: { Self → Shown };
 
-    /// The JSON value with which a document says it.
+    /// Returns the JSON value that is written for the plain data.
     ghost json: { Shown → Json };
 
-    /// Writes the value.
+    /// Writes the tokens of the value's JSON. Fails only if allocation fails.
     fn put(&self, out: &mut Pretty) -> Result<(), AllocError>
         ensures { OnOk result (out.new ≡ out.old ++ json_tokens (json (shown self.now))) };
 }
@@ -130,18 +130,6 @@ impl<T: ToJson> ToJson for Vec<T> {
     }
 }
 
-impl<T: ToJson> ToJson for &[T] {
-    ghost Shown = { List T.Shown };
-
-    ghost shown = { λ values. map T.shown values.now };
-
-    ghost json = { list_of T.json };
-
-    fn put(&self, out: &mut Pretty) -> Result<(), AllocError> {
-        put_list(out, self)
-    }
-}
-
 fn put_list<T: ToJson>(out: &mut Pretty, values: &[T]) -> Result<(), AllocError>
     ensures { OnOk result (out.new ≡ out.old ++ json_tokens (list_of T.json (map T.shown values.now))) }
 {
@@ -152,7 +140,7 @@ fn put_list<T: ToJson>(out: &mut Pretty, values: &[T]) -> Result<(), AllocError>
     out.token(Token::EndArray)
 }
 
-/// Writes a member of an object.
+/// Writes a member of an object: the name, and then the value.
 pub(crate) fn put_member<T: ToJson>(
     out: &mut Pretty,
     name: &str,

@@ -11,6 +11,7 @@ use Rattle.cal_machine.specs.declared.tree.Unreadable.{Unreadable}
 use Rattle.cal_unit_index.specs.rules.Index.{Fault, faults_of_listing}
 use Rattle.cal_unit_index.specs.rules.Folders.{folders, path_in}
 use Rattle.cal_unit_index.specs.declared.drop_in_files.DropIn.{DropIn}
+use Rattle.cal_unit_index.specs.declared.unit_type.UnitType.{UnitType}
 
 -- a file in a folder: its name and its path
 pub record FolderFile : Type 0 where
@@ -53,13 +54,15 @@ chosen found = map (λ entry. entry.1) (by_name found)
 -- The drop-ins that count, in the order in which they are read. `path` has the folders of the search path, the most
 -- important first, and `stems` has the stems of all names of the unit, its own first. A file in a more important folder
 -- hides the files of the same name in less important folders.
-unfoldable pub drop_ins : Machine → List (List ℕ) → List (List ℕ) → List (List ℕ)
-drop_ins machine path stems = chosen (flat_map (candidates_in machine) (folders machine (reverse path) (reverse stems)))
+unfoldable pub drop_ins : Machine → List (List ℕ) → UnitType → List (List ℕ) → List (List ℕ)
+drop_ins machine path unit_type stems =
+    chosen (flat_map (candidates_in machine) (folders machine (reverse path) unit_type (reverse stems)))
 
 -- the drop-in folders of the unit that can't be read
-unfoldable pub unread_folders : Machine → List (List ℕ) → List (List ℕ) → List Fault
-unread_folders machine path stems =
-    flat_map (λ folder. faults_of_listing folder (names_at machine folder)) (folders machine (reverse path) (reverse stems))
+unfoldable pub unread_folders : Machine → List (List ℕ) → UnitType → List (List ℕ) → List Fault
+unread_folders machine path unit_type stems =
+    flat_map (λ folder. faults_of_listing folder (names_at machine folder))
+    (folders machine (reverse path) unit_type (reverse stems))
 
 -- the struct `DropIn`, with its strings as lists of bytes
 abbrev pub shown_drop_in : DropIn → FolderFile

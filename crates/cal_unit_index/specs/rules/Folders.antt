@@ -10,6 +10,8 @@ use Rattle.cal_machine.specs.rules.Seen.{seen}
 use Rattle.cal_machine.specs.declared.follow.Last.TheVariants.{Followed}
 use Rattle.cal_machine.specs.declared.tree.Unreadable.{Unreadable}
 use Rattle.cal_unit_index.specs.rules.Destinations.{is_among, listed}
+use Rattle.cal_unit_index.specs.declared.unit_type.UnitType.{UnitType}
+use Rattle.cal_unit_index.specs.declared.unit_type.UnitType.TheVariants.{Timer, Service}
 use Rattle.cal_unit_index.specs.rules.UnitName.{stem_base, template_of}
 
 -- ## Whose drop-ins apply
@@ -24,7 +26,8 @@ unfoldable pub prefixes_within : List ℕ → ℕ → List (List ℕ)
 prefixes_within base zero = []
 prefixes_within base (suc n) = prefixes_within base n ++ (if is_dash_within base n then take (n + 1) base ∷ [] else [])
 
--- all prefixes of the part of a stem before its first `@`, or of the whole stem if it has no `@`
+-- the prefixes of the part of a stem before its first `@`, or of the whole stem if it has no `@`, that end with a dash
+-- (see `prefixes_within`)
 abbrev pub prefixes_of : List ℕ → List (List ℕ)
 prefixes_of stem = prefixes_within (stem_base stem) (length (stem_base stem))
 
@@ -43,15 +46,20 @@ unfoldable pub folder_stems : List ℕ → List (List ℕ)
 folder_stems stem =
     prefix_instances stem (template_of stem) ++ (prefixes_of stem ++ (option_to_list (template_of stem) ++ stem ∷ []))
 
--- the name of the drop-in folders for this stem
-abbrev pub folder_name : List ℕ → List ℕ
-folder_name stem = stem ++ codes ".timer.d"
+-- the suffix of the names of all units of a type
+abbrev pub suffix_of : UnitType → List ℕ
+suffix_of Timer = codes ".timer"
+suffix_of Service = codes ".service"
 
--- the name of the drop-in folders for all timers
-abbrev pub type_folder : List ℕ
-type_folder = codes "timer.d"
+-- the name of the drop-in folders for the unit of this type with this stem
+abbrev pub folder_name : UnitType → List ℕ → List ℕ
+folder_name unit_type stem = stem ++ suffix_of unit_type ++ codes ".d"
 
--- ## Which of them are read
+-- the name of the drop-in folders for all units of a type: its suffix without the dot, and `.d`
+abbrev pub type_folder : UnitType → List ℕ
+type_folder unit_type = drop 1 (suffix_of unit_type) ++ codes ".d"
+
+-- ## Which drop-in folders are read
 
 abbrev pub path_in : List ℕ → List ℕ → List ℕ
 path_in folder name = folder ++ codes "/" ++ name
@@ -60,11 +68,11 @@ path_in folder name = folder ++ codes "/" ++ name
 abbrev pub from_root : List ℕ → List ℕ
 from_root target = if starts_with nat_eq target (codes "/") then target else codes "/" ++ target
 
--- what is at the end of a path, where links are followed
+-- what is at the end of a path after all links on the way and at the end are followed
 abbrev pub end_at : Machine → List ℕ → Result Entry Unreadable
 end_at machine path = seen (λ place. place.entry) (place_of machine Followed path)
 
--- whether there is a folder, or something that can't be read
+-- whether what is at the end of a path is a folder, or can't be read
 abbrev pub can_be_folder : Result Entry Unreadable → Bool
 can_be_folder (Ok Missing) = false
 can_be_folder (Ok Empty) = false
@@ -98,13 +106,15 @@ folder_below machine root name = if is_drop_in_folder machine root name then pat
 abbrev pub folders_below : Machine → List (List ℕ) → List ℕ → List (List ℕ)
 folders_below machine names root = flat_map (folder_below machine root) names
 
--- the drop-in folders that apply to a unit with this stem: first all folders below the least important root, then all
+-- the drop-in folders that apply to a unit of this type with this stem: first all folders below the least important root, then all
 -- folders below the next one, and so on
-abbrev pub stem_folders : Machine → List (List ℕ) → List ℕ → List (List ℕ)
-stem_folders machine roots stem = flat_map (folders_below machine (map folder_name (folder_stems stem))) roots
+abbrev pub stem_folders : Machine → List (List ℕ) → UnitType → List ℕ → List (List ℕ)
+stem_folders machine roots unit_type stem =
+    flat_map (folders_below machine (map (folder_name unit_type) (folder_stems stem))) roots
 
--- the drop-in folders of a unit with these stems, the last of which is its own: first the folders that apply to all
--- timers, and then the folders for each stem
-abbrev pub folders : Machine → List (List ℕ) → List (List ℕ) → List (List ℕ)
-folders machine roots stems =
-    flat_map (folders_below machine (type_folder ∷ [])) roots ++ flat_map (stem_folders machine roots) stems
+-- the drop-in folders of a unit of this type with these stems, the last of which is its own: first the folders that
+-- apply to all units of the type, and then the folders for each stem
+abbrev pub folders : Machine → List (List ℕ) → UnitType → List (List ℕ) → List (List ℕ)
+folders machine roots unit_type stems =
+    flat_map (folders_below machine (type_folder unit_type ∷ [])) roots
+    ++ flat_map (stem_folders machine roots unit_type) stems

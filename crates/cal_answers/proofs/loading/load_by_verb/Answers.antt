@@ -41,3 +41,6 @@ returns-in_ok-load_timers-in-Between-clause-whole g c =
 pub returns-in_ok-load_expressions-in-Next-clause-known : goal.returns-in_ok-load_expressions-in-Next-clause-known
 returns-in_ok-load_expressions-in-Next-clause-known g c =
     λ machine path shows is. c.in_ok-load_expressions-in-Next.ensures.known machine shows
+
+pub returns-in-Due-clause-whole : goal.returns-in-Due-clause-whole
+returns-in-Due-clause-whole g c = c.load_due.ensures.whole c.args.is_all

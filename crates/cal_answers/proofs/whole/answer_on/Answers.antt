@@ -1,8 +1,8 @@
 use Rattle.std.proofs.lemmas.Result.{IfOk-weaker}
 use Rattle.cal_answers.proofs.whole.answer_on.Goals as goal
 
-pub returns-clause-out : goal.returns-clause-out
-returns-clause-out g c =
+pub returns-clause-answer : goal.returns-clause-answer
+returns-clause-answer g c =
     IfOk-weaker c.answer_question.result _ _
-    (λ answer printed. record { found = c.in_ok-found.found; follows = c.in_ok-found.ensures; printed = printed })
-    c.answer_question.ensures.out
+    (λ answer is. record { found = c.in_ok-found.found; follows = c.in_ok-found.ensures; answer = is })
+    c.answer_question.ensures.answer

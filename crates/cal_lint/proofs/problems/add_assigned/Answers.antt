@@ -14,5 +14,5 @@ returns-clause-problems c =
     let is : assignment_of line ≡ Some a = sym (rw c.in-Some.is at c.read_assignment.ensures) in
     let key : (length a.key == 0) ≡ false = sym c.is_empty.ensures ∙ c.if-is_empty.false in
     on_ok_weaker c.add_assignment.result
-    (λ h. h ∙ ap (λ more. map shown_finding c.args.found.now.items ++ more) (sym (assigned_are c.args.faults.now c.args.section line a is key)))
+    (λ h. h ∙ ap (λ more. map shown_finding c.args.found.now.items ++ more) (sym (assigned_are c.args.faults.now c.args.section line c.args.line.physical.now a is key)))
     c.add_assignment.ensures.problems

@@ -1,10 +1,10 @@
 use Rattle.std.proofs.Common.{◌∙◌, ◌++◌, append-nil, ap, map, rules, sym}
-use Rattle.cal_timer.specs.rules.Assignments.{assignments_in}
 use Rattle.cal_timer.specs.rules.LineView.{logical_line}
 use Rattle.cal_timer.specs.rules.Lines.{logical_lines}
-use Rattle.cal_read.specs.rules.SectionAssignments.{shown_owned_assignment}
+use Rattle.cal_read.specs.rules.SectionAssignments.{section_assignments, shown_owned_assignment}
+use Rattle.cal_read.proofs.SectionAssignmentsLemmas.{no_assignments}
 use Rattle.cal_load.specs.rules.Readable.{broken_in, lines_until_broken}
-use Rattle.cal_load.proofs.ReadableLemmas.{ends_here, goes_on_here, nothing_read, stops_here}
+use Rattle.cal_load.proofs.ReadableLemmas.{ends_here, goes_on_here, stops_here}
 use Rattle.cal_load.proofs.readable.read_text.Goals as goal
 
 pub loop-assignments-preserved : goal.loop-assignments-preserved
@@ -20,7 +20,7 @@ loop-assignments-preserved c =
       utf8 = search rules;
       found =
           sym (taken (lines_until_broken is_cut after))
-          ∙ ap (λ lines. map shown_owned_assignment c.loop-assignments.assignments.items ++ assignments_in c.loop-assignments.inside lines) (sym (ap (lines_until_broken is_cut) here ∙ step.0))
+          ∙ ap (λ lines. map shown_owned_assignment c.loop-assignments.assignments.items ++ section_assignments c.args.name.now c.loop-assignments.inside lines) (sym (ap (lines_until_broken is_cut) here ∙ step.0))
           ∙ c.loop-assignments.invariant.found;
       broken = sym (ap (broken_in is_cut) here ∙ step.1) ∙ c.loop-assignments.invariant.broken;
       bounds = search rules;
@@ -33,7 +33,7 @@ returns-in-Some-2-clause-assignments c =
     let reason = rw c.in-Some-2.is at c.in_ok-reason.ensures in
     let step = stops_here c.args.is_cut line _ c.in-Some-2.reason (sym reason) in
     let found = map shown_owned_assignment c.loop-assignments.assignments.items in
-    sym (append-nil found) ∙ sym (ap (λ more. found ++ more) (ap (assignments_in c.loop-assignments.inside) (ap (lines_until_broken c.args.is_cut) here ∙ step.0) ∙ nothing_read c.loop-assignments.inside))
+    sym (append-nil found) ∙ sym (ap (λ more. found ++ more) (ap (section_assignments c.args.name.now c.loop-assignments.inside) (ap (lines_until_broken c.args.is_cut) here ∙ step.0) ∙ no_assignments c.args.name.now c.loop-assignments.inside))
     ∙ c.loop-assignments.invariant.found
 
 pub returns-in-Some-2-clause-broken : goal.returns-in-Some-2-clause-broken
@@ -49,7 +49,7 @@ returns-clause-assignments c =
     let here = rw c.in_default.is at c.in_ok-line.ensures.lines in
     let found = map shown_owned_assignment c.loop-assignments.assignments.items in
     sym (append-nil found)
-    ∙ sym (ap (λ more. found ++ more) (ap (assignments_in c.loop-assignments.inside) (ap (lines_until_broken c.args.is_cut) here ∙ (ends_here c.args.is_cut).0) ∙ nothing_read c.loop-assignments.inside))
+    ∙ sym (ap (λ more. found ++ more) (ap (section_assignments c.args.name.now c.loop-assignments.inside) (ap (lines_until_broken c.args.is_cut) here ∙ (ends_here c.args.is_cut).0) ∙ no_assignments c.args.name.now c.loop-assignments.inside))
     ∙ c.loop-assignments.invariant.found
 
 pub returns-clause-broken : goal.returns-clause-broken

@@ -1,7 +1,9 @@
-use Rattle.std.proofs.Common.{ap, map, refl, string_bytes, subst, ◌∙◌}
+use Rattle.std.proofs.Common.{ap, map, option_map, refl, subst, ◌∙◌}
 use Rattle.std.specs.List.{AllZip}
 use Rattle.cal_load.specs.rules.Loaded.{expressions_in}
 use Rattle.cal_timers_report.specs.rules.ReportView.{line_seen}
+use Rattle.cal_zone.specs.declared.instant.Instant.{Instant}
+use Rattle.cal_tasks.specs.rules.LastElapse.{IsLastOf, timed_lines}
 use Rattle.cal_tasks.specs.rules.ShowReport.{IsShownLine, clock_time}
 use Rattle.cal_tasks.proofs.show_report.shown_timer.Goals as goal
 
@@ -11,9 +13,10 @@ returns c =
       unit = c.as_str.ensures.value;
       files = c.in_ok-files.ensures;
       expressions = subst (λ lines. AllZip (IsShownLine c.args.timer.now) lines (map line_seen c.in_ok-expressions.expressions.items)) c.lines.ensures c.in_ok-expressions.ensures;
-      exceptions = subst (λ lines. AllZip (IsShownLine c.args.timer.now) lines (map line_seen c.in_ok-exceptions.exceptions.items)) c.exceptions.ensures c.in_ok-exceptions.ensures;
-      notes = ap (map string_bytes) c.as_slice-2.ensures.value;
+      exceptions = subst (λ lines. AllZip (IsShownLine c.args.timer.now) lines (map line_seen c.in_ok-exceptions.exceptions.items)) c.exceptions-2.ensures c.in_ok-exceptions.ensures;
+      notes = c.in_ok-settings.ensures;
       warned = refl;
+      last = subst (λ lines. IsLastOf c.args.at c.args.timer.now (timed_lines c.args.at c.args.timer.now lines) (option_map (λ (instant : Instant). instant.secs) c.in_ok-last.last)) c.exceptions.ensures c.in_ok-last.ensures;
       elapses = c.in_ok-elapses.ensures;
       changes = c.in_ok-notes.notes.first.items;
       noted = record {

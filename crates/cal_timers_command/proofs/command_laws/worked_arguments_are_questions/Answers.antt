@@ -1,4 +1,4 @@
-use Rattle.cal_timers_command.proofs.WorkedRows.{count_asked, none_asked, range_asked, show_asked, target_asked, utc_asked}
+use Rattle.cal_timers_command.proofs.WorkedRows.{count_asked, due_asked, due_unit_asked, none_asked, range_asked, show_asked, target_asked, utc_asked}
 use Rattle.cal_timers_command.proofs.command_laws.worked_arguments_are_questions.Goals as goal
 
 pub returns : goal.returns
@@ -9,4 +9,6 @@ returns c = record {
   utc = utc_asked;
   count = count_asked;
   range = range_asked;
+  due = due_asked;
+  due_unit = due_unit_asked;
 }

@@ -15,6 +15,6 @@ returns-clause-known g c = λ machine shows all.
     sym (map-map string_bytes (λ stem. stem.now) c.in_ok-stems.stems.items) ∙ ap (map string_bytes) c.in_ok-stems.ensures ∙ map_reverse string_bytes c.args.stems.now in
     let listed : All (IsListing machine) (map (λ root. root.now) c.in_ok-roots.roots.items) =
     rw c.in_ok-roots.ensures (All_reverse (IsListing machine) c.args.path.now all) in
-    let first : map string_bytes c.in_ok-folders.folders.items ≡ flat_map (folders_below machine (type_folder ∷ [])) (reverse (map path_of c.args.path.now)) =
+    let first : map string_bytes c.in_ok-folders.folders.items ≡ flat_map (folders_below machine (type_folder c.args.unit_type ∷ [])) (reverse (map path_of c.args.path.now)) =
     (rw (c.as_slice.ensures.value, roots) at (c.in_ok-folders.ensures.known machine before (rw c.as_slice.ensures.value listed))) in
     rw (c.as_slice-2.ensures.value, c.as_slice-3.ensures.value, roots, stems, first) at (c.in_ok-push_all_folders.ensures.known machine shows (rw c.as_slice-2.ensures.value listed))

@@ -10,5 +10,5 @@ abbrev pub invariant-loop-stem : goal.invariant-loop-stem
 invariant-loop-stem g l =
     ((machine : Machine) → g.T.Tree.shows l.tree machine → All (IsListing machine) (map (λ root. root.now) l.roots)
     → map string_bytes l.folders.items ≡ map string_bytes l.fn.folders.items
-    ++ flat_map (stem_folders machine (map (λ root. path_of root.now) l.roots)) (map (λ stem. string_bytes stem.now) (take l.stem-index l.stems)))
+    ++ flat_map (stem_folders machine (map (λ root. path_of root.now) l.roots) l.unit_type) (map (λ stem. string_bytes stem.now) (take l.stem-index l.stems)))
     × ((machine : Machine) → g.T.Tree.shows l.tree machine → g.T.Tree.shows l.fn.tree machine)

@@ -3,6 +3,7 @@ use Rattle.std.proofs.lemmas.Iterator.Adapters.{YieldsList-from_vec}
 use Rattle.std.proofs.lemmas.Iterator.Consumers.{YieldsList-end}
 use Rattle.std.proofs.lemmas.List.{map-id}
 use Rattle.std.specs.List.{flat_map, fold}
+use Rattle.cal_unit_index.specs.declared.unit_type.UnitType.TheVariants.{Timer}
 use Rattle.cal_unit_index.specs.rules.DropIns.{drop_ins, unread_folders}
 use Rattle.cal_unit_index.specs.rules.Names.{names_on}
 use Rattle.cal_load.specs.declared.files.Reading.{Reading}
@@ -35,8 +36,8 @@ returns-clause-read g c machine path shows is =
     let before = c.loop-path.invariant.1 machine shows in
     let reported : Reading = record { seen = c.args.self.now.seen; loaded = record { files = c.args.self.now.loaded.files; faults = c.push_lost.new.faults } } in
     drop_ins_read machine path names paths.items c.in_ok-paths.field-0.unread.items c.args.self.now reported c.loop-path.self
-    (c.in_ok-paths.ensures.known machine path before is ∙ ap (drop_ins machine path) found)
-    (c.in_ok-paths.ensures.unread machine path before is ∙ ap (unread_folders machine path) found)
+    (c.in_ok-paths.ensures.known machine path before is ∙ ap (drop_ins machine path Timer) found)
+    (c.in_ok-paths.ensures.unread machine path before is ∙ ap (unread_folders machine path Timer) found)
     refl refl c.in_ok-push_lost.ensures.lost
     (subst (λ paths. AreReadAlso machine (map string_bytes paths) (flat_map (lost_drop_in machine) (map string_bytes paths)) reported c.loop-path.self) all
     (c.loop-path.invariant.2 machine shows))

@@ -1,0 +1,8 @@
+use Rattle.std.proofs.Common.{◌≡◌, map, string_bytes, take}
+use Rattle.std.specs.List.{flat_map}
+use Rattle.cal_answers.specs.rules.ErrorText.{broken_lines, with_lines}
+use Rattle.cal_answers.proofs.answer.push_broken_lines.Given as goal
+
+abbrev pub invariant-loop-timer : goal.invariant-loop-timer
+invariant-loop-timer l =
+    map string_bytes l.lines.items ≡ with_lines (map string_bytes l.fn.lines.items) (flat_map broken_lines (take l.timer-index l.timers))

@@ -1,0 +1,4 @@
+use Rattle.cal_answers.proofs.loading.load_due.Goals as goal
+
+pub returns-clause-known : goal.returns-clause-known
+returns-clause-known g c = c.in_ok-timer.ensures.known

@@ -1,0 +1,133 @@
+//! The verb `due`: whether the run of a service that starts now is due.
+
+ghost use Rattle.std.specs.Prelude.{◌≡◌, ◌≤◌, IfOk, None, Some, map, option_map, slice_get, string_bytes};
+ghost use Rattle.cal_timers_report.specs.rules.ReportView.{due_seen};
+ghost use Rattle.cal_answers.specs.rules.Output.{IsDueAnswer, IsFirstDue, IsUnloaded, due_output, due_view, folder_of, status_of};
+ghost use Rattle.cal_answers.specs.rules.Printed.{printed_of};
+
+use crate::answer::{Answer, Asked, INVALID, fault_lines, push_masked, stopped, with_error_lines};
+use crate::compare::if_folder;
+use cal_load::{Loaded, LoadedTimer};
+use cal_plan::PlanFault;
+use cal_tasks::{DueRun, due_run};
+use cal_timers_report::{DueReport, DueVerdict, due_json, due_text};
+use std::alloc::{AllocError, Global};
+
+/// Checks whether the run that starts now is due according to the loaded timer. It is due if no timer started it.
+pub(crate) fn due(
+    alloc: Global,
+    asked: Asked<'_>,
+    loaded: &Option<Loaded>,
+) -> Result<Answer, PlanFault>
+    ensures status { IfOk result (λ answer. answer.status ≤ 2) }
+    ensures answer { IfOk result (λ answer. IsDueAnswer asked.entry loaded.now (printed_of answer)) }
+{
+    match loaded {
+        Some(timer) => due_by(alloc, asked, timer),
+        None => by_hand(alloc, asked),
+    }
+}
+
+fn by_hand(alloc: Global, asked: Asked<'_>) -> Result<Answer, PlanFault>
+    ensures status { IfOk result (λ answer. answer.status ≤ 2) }
+    ensures answer { IfOk result (λ answer. IsDueAnswer asked.entry None (printed_of answer)) }
+{
+    let report = DueReport {
+        unit: None,
+        verdict: DueVerdict::ByHand,
+    };
+    Ok(Answer {
+        out: due_output(alloc, asked, &report)?,
+        err: String::new(alloc),
+        status: 0,
+    })
+}
+
+/// Checks whether the run is due according to what was loaded. A folder isn't a timer, even if it has only one timer.
+fn due_by(alloc: Global, asked: Asked<'_>, loaded: &Loaded) -> Result<Answer, PlanFault>
+    ensures status { IfOk result (λ answer. answer.status ≤ 2) }
+    ensures answer { IfOk result (λ answer. IsDueAnswer asked.entry (Some loaded.now) (printed_of answer)) }
+{
+    if let Some(folder) = find_folder(asked.targets, loaded) {
+        let reason = format!(in alloc; "{folder}: a directory, not a timer")?;
+        return stopped(alloc, reason.as_str());
+    }
+    match loaded.timers.first() {
+        Some(timer) => due_by_timer(alloc, asked, loaded, timer),
+        None => unloaded(alloc, loaded),
+    }
+}
+
+/// Returns the target if it was loaded as a folder.
+fn find_folder<'t>(targets: &'t [String], loaded: &Loaded) -> Option<&'t str>
+    ensures { option_map (λ folder. folder.now) result ≡ folder_of (slice_get (map string_bytes targets.now) 0) loaded.now }
+{
+    if_folder(targets.first()?.as_str(), loaded)
+}
+
+fn due_by_timer(
+    alloc: Global,
+    asked: Asked<'_>,
+    loaded: &Loaded,
+    timer: &LoadedTimer,
+) -> Result<Answer, PlanFault>
+    ensures status { IfOk result (λ answer. answer.status ≤ 2) }
+    ensures answer { IfOk result (λ answer. IsFirstDue asked.entry loaded.now (Some timer.now) (printed_of answer)) }
+{
+    let run = due_run(alloc, asked.at, timer)?;
+    let report = report_of(timer, run);
+    let out = due_output(alloc, asked, &report)?;
+    let Answer { out, err, status } = with_error_lines(alloc, loaded, out)?;
+    let status = status.max(status_of(run));
+    Ok(Answer { out, err, status })
+}
+
+fn report_of<'t>(timer: &'t LoadedTimer, run: DueRun) -> DueReport<'t>
+    ensures { due_seen result ≡ due_view (string_bytes timer.entry.now.name) run }
+{
+    DueReport {
+        unit: Some(timer.name.as_str()),
+        verdict: match run {
+            DueRun::Due(instant) => DueVerdict::Due(instant),
+            DueRun::Excepted(instant) => DueVerdict::Excepted(instant),
+            DueRun::NotElapsed => DueVerdict::NotElapsed,
+        },
+    }
+}
+
+/// Returns the exit status if there is no error line: 0 if the run is due, and [`INVALID`] if it isn't.
+fn status_of(run: DueRun) -> u8
+    ensures { result ≡ status_of run }
+{
+    match run {
+        DueRun::Due(_) => 0,
+        DueRun::Excepted(_) | DueRun::NotElapsed => INVALID,
+    }
+}
+
+fn due_output(alloc: Global, asked: Asked<'_>, report: &DueReport<'_>) -> Result<String, AllocError>
+    ensures { IfOk result (λ out. string_bytes out ≡ due_output asked.entry (due_seen report.now)) }
+{
+    if asked.is_json {
+        due_json(alloc, asked.shown.local, report)
+    } else {
+        due_text(alloc, asked.shown.local, report)
+    }
+}
+
+/// Returns the answer if the timer couldn't be loaded: the error lines, and a line if it is masked.
+fn unloaded(alloc: Global, loaded: &Loaded) -> Result<Answer, PlanFault>
+    ensures status { IfOk result (λ answer. answer.status ≤ 2) }
+    ensures answer { IfOk result (λ answer. IsUnloaded loaded.now (printed_of answer)) }
+{
+    let mut err = fault_lines(alloc, loaded.faults.as_slice())?;
+    push_masked(&mut err, loaded.masked.as_slice())?;
+    if err.is_empty() {
+        return stopped(alloc, "no timer was found");
+    }
+    Ok(Answer {
+        out: String::new(alloc),
+        err,
+        status: INVALID,
+    })
+}

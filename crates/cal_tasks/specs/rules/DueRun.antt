@@ -1,0 +1,25 @@
+-- Whether the run of a service that its timer starts now is due: systemd.timer(5), OnCalendar=.
+use Rattle.std.specs.Prelude.{ℤ, Bool, true, false, [], Option, None, Some}
+use Rattle.cal_elapse.specs.rules.Elapses.{IsElapse}
+use Rattle.cal_load.specs.declared.loaded.LoadedTimer.{LoadedTimer}
+use Rattle.cal_tasks.specs.declared.clocked.Clocked.{Clocked}
+use Rattle.cal_tasks.specs.declared.due.DueRun.{DueRun}
+use Rattle.cal_tasks.specs.declared.due.DueRun.TheVariants.{Due, Excepted, NotElapsed}
+use Rattle.cal_tasks.specs.rules.LastElapse.{IsLastElapse, IsLastOf, timed_exceptions}
+
+-- an exception elapses at this instant
+abbrev pub IsExcepted : Clocked → LoadedTimer → ℤ → Type 0
+IsExcepted at timer secs = IsElapse (timed_exceptions at timer) secs
+
+-- The run that the timer starts now is due if there is a last elapse of its expressions, whether an exception elapses
+-- then or not, and no exception elapses at the same instant.
+abbrev pub IsDueRun : Clocked → LoadedTimer → DueRun → Type 0
+IsDueRun at timer (Due instant) = IsLastElapse at timer [] instant.secs × (IsExcepted at timer instant.secs → ⊥)
+IsDueRun at timer (Excepted instant) = IsLastElapse at timer [] instant.secs × IsExcepted at timer instant.secs
+IsDueRun at timer NotElapsed = IsLastOf at timer [] None
+
+-- whether the run is due, and the last elapse
+abbrev pub run_seen : DueRun → Bool × Option ℤ
+run_seen (Due instant) = (true, Some instant.secs)
+run_seen (Excepted instant) = (false, Some instant.secs)
+run_seen NotElapsed = (false, None)

@@ -1,0 +1,7 @@
+-- Searching the remaining verbs has the same result as searching all, because none of those so far is similar.
+use Rattle.std.proofs.Common.{◌≡◌, drop, find}
+use Rattle.cal_timers_command.specs.rules.Verbs.{is_similar}
+use Rattle.cal_timers_command.proofs.question.find_similar.Given as goal
+
+abbrev pub invariant-loop-verb : goal.invariant-loop-verb
+invariant-loop-verb l = find (is_similar l.word) (drop l.verb-index l.verbs) ≡ find (is_similar l.word) l.verbs

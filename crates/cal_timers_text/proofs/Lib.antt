@@ -1,0 +1,3 @@
+pub mod LintLemmas
+pub mod PlaceLemmas
+pub mod PushLemmas
