@@ -15,7 +15,7 @@ use Rattle.cal_answers.specs.rules.LintRows.{Listed}
 pub no_files : (style : Style) (old : List Listed) → HasAlso (AreProblemsOfFiles style []) old old
 no_files style old = ([], ([], tt, refl), sym (append-nil old))
 
--- the problems of a text are those of the file that has it
+-- adding the problems of a file's text, decoded as UTF-8 with replacement characters, adds the problems of the file
 pub file_as : (style : Style) (file : UnitText) (path text : List ℕ) (old new : List Listed) → path ≡ string_bytes file.path → text ≡ utf8_lossy file.bytes.items
     → HasAlso (AreProblemsOfText style path text) old new → HasAlso (AreProblemsOfFile style file) old new
 file_as style file path text old new same is has =

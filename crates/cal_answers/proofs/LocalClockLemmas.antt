@@ -27,7 +27,7 @@ pub utc_zone : zone_of utc ≡ UTC
 unfolding zone_of
 utc_zone = refl
 
--- if the rule determines the local zone, then a zone that was found for the rule is the local zone
+-- if the local zone is given by a rule, then a zone that was found for the rule is the local zone
 pub ruled_as : (found : Result LocalClock ZonesFault) (rule : List ℕ) (Shows : Machine → Type 0) (local : Machine → MachineLocalZone)
     → ((machine : Machine) → Shows machine → ByRule rule ≡ local machine)
     → IfOk found (λ clock. (machine : Machine) → IsLocalZone machine (ByRule rule) (clock_zone clock))
@@ -36,7 +36,7 @@ ruled_as (Ok clock) rule Shows local same is =
     λ machine shows. subst (λ local. IsLocalZone machine local (clock_zone clock)) (same machine shows) (is machine)
 ruled_as (Err fault) rule Shows local same is = tt
 
--- if the rule determines the local zone and can't be used, the local zone can't be used
+-- if the local zone is given by a rule that can't be used, the local zone can't be used
 pub ruled_unusable : (found : Result LocalClock ZonesFault) (rule : List ℕ) (Shows : Machine → Type 0) (local : Machine → MachineLocalZone)
     → ((machine : Machine) → Shows machine → ByRule rule ≡ local machine)
     → IfErr found (λ fault. fault ≢ faults.NoMemory → (machine : Machine) → IsUnusable machine (ByRule rule))
@@ -66,7 +66,7 @@ unfolding zone_named
 named_if machine table name has zones true is = rw is (utc_on machine name is)
 named_if machine table name has zones false is = some_on machine name is (zone_named table name) has (zones name is)
 
--- if the local zone is given by a name that a table of the machine's zones has, then it is the table's zone
+-- if a table of the machine's zones has a zone with the name that the local zone has, this zone is the local zone
 pub named_zone : (machine : Machine) (table : ZoneMap) (name : List ℕ) → is_some (zone_named table name) ≡ true → HasZonesOf machine table
     → IsLocalZone machine (OfName name) (zone_named table name)
 named_zone machine table name has zones = named_if machine table name has zones (is_utc_name name) refl
@@ -85,13 +85,13 @@ unusable_by machine name (faults.At path reason) other (named, has, at, is) =
     (reason, subst (λ name. IsReasonOn machine name reason) (only_name name named has) is)
 unusable_by machine name faults.NoMemory other is = absurd (other refl)
 
--- a zone can't be used if loading a table for its name fails
+-- if loading a table for the name of a zone fails, and not because memory ran out, the zone can't be used
 pub unusable_name : (machine : Machine) (name : List ℕ) (names : List (String Global)) (fault : ZonesFault) → map string_bytes names ≡ name ∷ []
     → fault ≢ faults.NoMemory → IsFirstError machine (map string_bytes names) fault → IsUnusable machine (OfName name)
 unusable_name machine name names fault single other is =
     unusable_by machine name fault other (subst (λ names. IsZonesError machine names fault) single (first_named machine (map string_bytes names) fault is))
 
--- a local zone can't be used if it can't be found
+-- if finding the local zone fails, and not because memory ran out, the local zone can't be used
 pub unusable_unfound : (machine : Machine) (local : MachineLocalZone) (fault : ZonesFault) → fault ≢ faults.NoMemory → IsResultOf local (Err fault)
     → IsUnusable machine local
 unusable_unfound machine local (faults.Unclear origin) other is = subst (IsUnusable machine) (sym is) tt

@@ -4,14 +4,15 @@ use Rattle.std.proofs.lemmas.List.{flat_map_more, take_more}
 use Rattle.std.proofs.lemmas.List.Folds.{flat_map-map}
 use Rattle.std.specs.List.{flat_map}
 
--- a loop's step: what one more element contributes is at the end
+-- one step of a loop: if what `f` returns for the first `i` elements was appended, and then what it returns for the
+-- next element, then what it returns for the first `i + 1` was appended
 pub flat_more : {X A : Type 0} (f : X → List A) (xs : List X) (i : ℕ) (x : X) (old now new : List A) → i < length xs → x ≡ get_or xs i x
     → now ≡ old ++ flat_map f (take i xs) → new ≡ now ++ f x → new ≡ old ++ flat_map f (take (i + 1) xs)
 flat_more f xs i x old now new within is was more =
     let all : take i xs ++ x ∷ [] ≡ take (i + 1) xs = ap (λ y. take i xs ++ y ∷ []) is ∙ sym (take_more xs i x within) in
     more ∙ ap (λ ys. ys ++ f x) was ∙ flat_map_more f old (take i xs) x ∙ ap (λ ys. old ++ flat_map f ys) all
 
--- like `flat_more`, for a view of the elements
+-- `flat_more` for elements seen through `view`
 pub flat_more_by : {X Y A : Type 0} (f : Y → List A) (view : X → Y) (xs : List X) (i : ℕ) (x : X) (old now new : List A) → i < length xs → x ≡ get_or xs i x
     → now ≡ old ++ flat_map f (map view (take i xs)) → new ≡ now ++ f (view x) → new ≡ old ++ flat_map f (map view (take (i + 1) xs))
 flat_more_by f view xs i x old now new within is was more =

@@ -6,7 +6,7 @@ use Rattle.cal_unit_index.specs.declared.search_path.UserVariables.{UserVariable
 use Rattle.cal_unit_index.specs.rules.SearchPath.{given_path, shown_variables}
 use Rattle.cal_answers.specs.rules.MachinePath.{machine_path, usual_path, variable_on, variables_on}
 
--- the variables are those of a machine if each of them is
+-- if each of the variables has the value that it has on a machine, they are the variables of the machine
 pub variables_are : (machine : Machine) (variables : UserVariables)
     → variable_on machine (codes "HOME") ≡ option_copied variables.home
     → variable_on machine (codes "XDG_CONFIG_HOME") ≡ option_copied variables.config_home

@@ -18,12 +18,13 @@ use Rattle.cal_zone_files.specs.rules.ZoneFiles.{HasZonesOf, IsFirstError, IsRea
 use Rattle.cal_answers.proofs.LocalClockLemmas.{has_single, unusable_name}
 use Rattle.cal_answers.specs.rules.RangeZones.{IsTableOf}
 
--- a table without names has only zones of the machine
+-- all zones of the empty table, which has only UTC, are zones of the machine
 pub none_has : (machine : Machine) → HasZonesOf machine empty
 unfolding zone_named
 none_has machine name other = rw (other, get-empty {X = TimeZone} (slice_cmp nat_cmp) name) tt
 
--- a table that was loaded, or has only UTC, has only zones of the machine
+-- all zones of a table are zones of the machine if the table was loaded from the machine, or has only UTC because
+-- loading failed
 pub zones_of_table : (machine : Machine) (Shows : Machine → Type 0) (loaded : Result ZoneMap ZonesFault) (table : ZoneMap) → IsTableOf loaded table
     → IfOk loaded (λ found. (machine : Machine) → Shows machine → HasZonesOf machine found) → Shows machine → HasZonesOf machine table
 zones_of_table machine Shows (Ok found) table same zones shows = subst (HasZonesOf machine) (sym same) (zones machine shows)

@@ -4,7 +4,8 @@ use Rattle.cal_bytes.specs.rules.Writes.{AppendsFront, Writes}
 use Rattle.cal_answers.specs.rules.Printed.{Printed}
 use Rattle.cal_answers.specs.rules.Run.{Prints, WritesUnless, err_text, status_unless}
 
--- a call wrote all of the text, or a prefix of it if the call failed
+-- `WritesUnless` holds if `failed` says whether a call failed, and the call wrote all of the text, or a prefix of it if
+-- it failed
 writes_unless : {T E : Type 0} (written : Result T E) (failed : Bool) (old new : Option (List ℕ)) (text : List ℕ)
     → failed ≡ is_err written → Writes old new written text → WritesUnless failed old new text
 writes_unless (Ok done) failed old new text is writes = subst (λ (b : Bool). WritesUnless b old new text) (sym is) writes

@@ -100,7 +100,7 @@ fn answer_for<S: System + Drop, T: AsStr>(
     }
 }
 
-/// Returns the answer to a question about the system, or about the part of it below the root that the question names.
+/// Answers a question about the system or, if the question names a root, about the part of the system below this root.
 fn answer_on_system<S: System + Drop>(
     alloc: Global,
     system: S,
@@ -114,8 +114,9 @@ fn answer_on_system<S: System + Drop>(
     answer_on(alloc, system.below(root), question, clock, style)
 }
 
-/// Writes both texts, and returns the exit status: `status`, or [`FAILED`] if `out` fails. In this case, a last line on
-/// `err` says so. If `is_due` and there is an error line, the status is [`NOT_KNOWN`].
+/// Writes `answer` to `out` and then `lines` to `err`, and returns the exit status, which is usually `status`. If `out`
+/// fails, a last line on `err` says so, and the exit status is [`FAILED`]. If `is_due` is `true` and there is any error
+/// line, the exit status is [`NOT_KNOWN`] instead.
 fn write_answer<O: Sink, E: Sink>(
     is_due: bool,
     answer: &str,

@@ -17,8 +17,8 @@ use cal_zone::Instant;
 use std::alloc::{AllocError, Global};
 
 /// Lists the elapses of timers in a range. The first two targets are the start of the range, which is included, and its
-/// end, which isn't. An end such as `Mon 06:00` resolves to the first such time after the start. `loaded` is what the
-/// other targets stand for.
+/// end, which isn't. An end such as `Mon 06:00` resolves to the first such time after the start. `loaded` is what was
+/// loaded for the other targets.
 pub(crate) fn between(alloc: Global, asked: Asked<'_>, loaded: &Loaded) -> Result<Answer, PlanFault>
     ensures status { IfOk result (λ answer. answer.status ≤ 2) }
     ensures answer { IfOk result (λ answer.

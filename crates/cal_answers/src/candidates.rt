@@ -10,18 +10,19 @@ use std::alloc::{AllocError, Global};
 #[derive(Debug, Drop)]
 pub(crate) struct Candidate {
     pub kind: ProblemKind,
-    /// The path of the file or, for a problem of a timer as a whole, the name of the timer.
+    /// The path of the file that has the line. Without a line, the name of the timer, or the path of the file or
+    /// folder, that the problem is about as a whole.
     pub file: String,
-    /// The line of the file, or `None` for a problem of a timer as a whole.
+    /// The line of the file, or `None` for a problem of a timer, file or folder as a whole.
     pub line: Option<u32>,
     pub message: String,
     pub unless: Unless,
 }
 
-/// Which problem that is listed already makes `lint` leave out a candidate.
+/// Which problems make `lint` leave out a candidate if they are listed already.
 #[derive(Clone, Copy, PartialEq, Eq, Debug)]
 pub(crate) enum Unless {
-    /// Only the same problem, since several timers can have the same drop-in.
+    /// Only the same problem. Several timers can have the same drop-in, and then its problem is found several times.
     Same,
     /// The same problem, or any error in the line.
     ErrorInLine,

@@ -20,8 +20,8 @@ use cal_tasks::compare;
 use cal_timers_report::{Comparison, same_json, same_text};
 use std::alloc::{AllocError, Global};
 
-/// Compares the two timers for which the targets stand. A target that doesn't stand for a single timer is an error: a
-/// folder, even one with a single timer, and a timer that is masked or can't be loaded.
+/// Compares the two timers that the targets name. A folder as a target is an error, even if it has only one timer, and
+/// so is a timer that is masked or can't be loaded.
 pub(crate) fn same(
     alloc: Global,
     asked: Asked<'_>,
@@ -66,9 +66,9 @@ pub(crate) fn if_folder<'t>(target: &'t str, loaded: &Loaded) -> Option<&'t str>
     }
 }
 
-/// Returns whether a target was loaded as a folder that has a timer or is empty. A file that is a target is named by
-/// the target itself, and a timer of a folder by the name of its unit. Returns `false` if nothing in the folder could
-/// be loaded; then the errors or masked units are reported instead.
+/// Returns whether a target was loaded as a folder that has a timer or is empty. If a target is a file, the timer's
+/// name is the target itself; if it is a folder, the name is that of a unit in it. Returns `false` if nothing in the
+/// folder could be loaded; then the errors or masked units are reported instead.
 fn is_folder(target: &str, loaded: &Loaded) -> bool
     ensures { result ≡ is_loaded_folder target.now loaded.now }
 {
@@ -78,7 +78,7 @@ fn is_folder(target: &str, loaded: &Loaded) -> bool
     }
 }
 
-/// Returns whether the name of a timer is the target itself, slashes at its end aside.
+/// Returns whether the name of a timer is the target itself, without the slashes at the target's end.
 fn is_named(target: &str, timer: &LoadedTimer) -> bool
     ensures { result ≡ is_named target.now timer.now }
 {
@@ -151,8 +151,8 @@ fn unloaded(alloc: Global, first: &Loaded, second: &Loaded) -> Result<Answer, Pl
     })
 }
 
-/// Returns the error lines about two timers, also about lines of their files that are ignored. An error about something
-/// that both timers have, for example a folder of drop-ins, has only one line.
+/// Returns the error lines about two timers, including those about ignored lines of their files. Something that both
+/// timers share, such as a folder of drop-ins or a drop-in, is reported only once.
 fn lines_of_both(alloc: Global, first: &Loaded, second: &Loaded) -> Result<String, AllocError>
     ensures { IfOk result (λ lines. string_bytes lines ≡ lines_of_both first.now second.now) }
 {

@@ -43,7 +43,8 @@ fn by_hand(alloc: Global, asked: Asked<'_>) -> Result<Answer, PlanFault>
     })
 }
 
-/// Checks whether the run is due according to what was loaded. A folder isn't a timer, even if it has only one timer.
+/// Checks whether the run is due according to what was loaded for the target. A folder is an error, even if it has only
+/// one timer.
 fn due_by(alloc: Global, asked: Asked<'_>, loaded: &Loaded) -> Result<Answer, PlanFault>
     ensures status { IfOk result (λ answer. answer.status ≤ 2) }
     ensures answer { IfOk result (λ answer. IsDueAnswer asked.entry (Some loaded.now) (printed_of answer)) }
@@ -115,7 +116,7 @@ fn due_output(alloc: Global, asked: Asked<'_>, report: &DueReport<'_>) -> Result
     }
 }
 
-/// Returns the answer if the timer couldn't be loaded: the error lines, and a line if it is masked.
+/// Returns the answer if the timer couldn't be loaded: the error lines, and a line about the timer if it is masked.
 fn unloaded(alloc: Global, loaded: &Loaded) -> Result<Answer, PlanFault>
     ensures status { IfOk result (λ answer. answer.status ≤ 2) }
     ensures answer { IfOk result (λ answer. IsUnloaded loaded.now (printed_of answer)) }

@@ -31,8 +31,7 @@ impl<T: Drop> From<AllocFailed<T>> for ReadFault {
 }
 
 impl ReadFault {
-    /// Returns an error which says that the question can't be answered, for this reason, or `NoMemory` if allocation
-    /// fails.
+    /// Returns the error that the question can't be answered, for this reason. Returns `NoMemory` if allocation fails.
     pub(crate) fn reason(alloc: Global, reason: &str) -> ReadFault {
         match String::from_str(alloc, reason) {
             Ok(reason) => ReadFault::Unanswerable(reason),

@@ -18,8 +18,8 @@ use cal_timers_command::Verb;
 use cal_unit_index::{UnitFault, UnitIndex};
 use std::alloc::{AllocError, Global};
 
-/// Reads the index of the search path. If the question can't be about units, returns an index of no folder at all, so
-/// that no folder is listed.
+/// Reads the index of the search path. If the question can't be about units, returns the index of an empty search path,
+/// so that no folder is read.
 pub(crate) fn index_for<T: Tree>(
     alloc: Global,
     tree: &mut T,
@@ -40,9 +40,9 @@ pub(crate) fn index_for<T: Tree>(
     }
 }
 
-/// Returns whether a question can be about units: it names no timers, and so is about all units, or it names a timer
-/// that isn't given as a path. `next` is never about units, since its targets are expressions, and `due` is only about
-/// a timer that is named.
+/// Returns whether a question can be about units: it names no timers, so that it is about the units that other units
+/// start or about all units, or at least one of its targets isn't a path. `next` is never about units, since its
+/// targets are expressions. `due` is about a unit only if it has a target that isn't a path.
 fn has_units(verb: Verb, targets: &[&str]) -> bool
     ensures { result ≡ needs_units verb (map (λ text. text.now) targets.now) }
 {
@@ -72,7 +72,7 @@ fn has_name(targets: &[&str]) -> bool
     false
 }
 
-/// Returns the targets that are timers. The first two targets of `between` are instants.
+/// Returns the targets that name timers: all of them or, for `between`, those after the first two, which are times.
 pub(crate) fn timers_of<'t>(verb: Verb, targets: &'t [&'t str]) -> &'t [&'t str]
     ensures { result.now ≡ timer_targets verb targets.now }
 {
@@ -82,8 +82,8 @@ pub(crate) fn timers_of<'t>(verb: Verb, targets: &'t [&'t str]) -> &'t [&'t str]
     }
 }
 
-/// Adds an error line to an answer for each folder, file or link of the search path that can't be read. No other error
-/// line of the answer is about these paths, unless such a path is a target as well.
+/// Adds an error line to an answer for each folder, file or link of the search path that can't be read. Unless such a
+/// path is also a target, no other error line of the answer is about it.
 pub(crate) fn with_unreadable(
     alloc: Global,
     unreadable: &[UnitFault],
@@ -97,7 +97,7 @@ pub(crate) fn with_unreadable(
     Ok(with_errors(answer, lines.as_str())?)
 }
 
-/// Converts errors about paths to the form in which targets that can't be loaded are reported.
+/// Converts errors about paths to [`TargetFault`]s, the form in which errors about targets are reported.
 pub(crate) fn target_faults(
     alloc: Global,
     unreadable: &[UnitFault],

@@ -15,8 +15,8 @@ use cal_timers_command::Verb;
 use cal_unit_index::UnitIndex;
 use std::alloc::{AllocError, Global};
 
-/// Loads what the targets of a question stand for. If `list`, `lint` or `between` has no targets besides the two times
-/// of `between`, loads the timers that other units start or, if `is_all`, all timers in the search path. `index` is the
+/// Loads what the targets of a question stand for. If `list` or `lint` has no targets, or `between` has none but its
+/// two times, loads the timers that other units start or, if `is_all`, all timers in the search path. `index` is the
 /// index of the search path.
 pub(crate) fn load_by_verb<T: Tree>(
     alloc: Global,
@@ -52,8 +52,8 @@ pub(crate) fn load_by_verb<T: Tree>(
     }
 }
 
-/// Loads the timers that the targets name. If there are no targets, loads the timers that other units start or, if
-/// `is_all`, all timers. Targets that end in `.conf` are left out: a drop-in is not a timer by itself.
+/// Loads the timers that the targets name, except targets that end in `.conf`: a drop-in is not a timer by itself. If
+/// there are no targets, loads the timers that other units start or, if `is_all` is `true`, all timers.
 fn load_whole_timers<T: Tree>(
     alloc: Global,
     tree: &mut T,

@@ -28,8 +28,8 @@ pub enum LocalClock {
 }
 
 impl LocalClock {
-    /// Finds which zone to use, and reads its file if it has one. `option` is the value of `--zone` or
-    /// `--in`, if it is given. `by_variable` says whether the variable `TZ` counts.
+    /// Finds which zone to use, and reads its file if it has one. `option` is the value of `--zone` or `--in`, if it is
+    /// given. If `by_variable` is `false`, the variable `TZ` is ignored.
     ///
     /// Fails as [`find_local_zone`] and [`load_zones`] do, and with [`ZonesFault::Unclear`] if the rule in the option
     /// is invalid.

@@ -16,7 +16,7 @@ use cal_zone::{ZoneName, ZoneTable};
 use cal_zone_files::{ZonesFault, load_zones};
 use std::alloc::{AllocError, Global};
 
-/// The zones that the start and the end of a range of `between` can name, besides UTC.
+/// The zones, besides UTC, that the start and the end of the range of `between` name.
 #[derive(Drop)]
 pub struct RangeZones {
     /// The zones for the start of the range.
@@ -26,8 +26,8 @@ pub struct RangeZones {
 }
 
 impl RangeZones {
-    /// Loads the zones that the first two targets of `between` name. There are none for other verbs. A zone whose file
-    /// can't be used is left out, and so isn't known when the text is parsed.
+    /// Loads the zones that the first two targets of `between` name. For other verbs, loads none. A zone whose file
+    /// can't be used is left out, so parsing the start or the end of the range fails as for an unknown zone.
     pub(crate) fn load<T: Tree>(
         alloc: Global,
         tree: &mut T,
@@ -44,7 +44,8 @@ impl RangeZones {
     }
 }
 
-/// Returns the start of the range (0) or its end (1), or an empty text if the targets aren't those of `between`.
+/// Returns the text of the range's start (`index` 0) or end (`index` 1) if the verb is `between`, and otherwise an
+/// empty text.
 fn range_text<'t>(verb: Verb, targets: &'t [&'t str], index: usize) -> &'t str
     ensures { result.now ≡ range_text verb (map (λ text. text.now) targets.now) index }
 {

@@ -1,5 +1,5 @@
-//! Error lines that depend on the whole answer: a hint at a misspelled verb, folders without timers, and a missing zone
-//! file.
+//! Error lines that depend on the whole answer: a hint that the first target may be a misspelled verb, folders without
+//! timers, and a missing zone file.
 
 ghost use Rattle.std.specs.Prelude.{◌≡◌, ◌≤◌, ◌++◌, IfOk, OnOk, codes, map, max, option_map, slice_get, string_bytes};
 ghost use Rattle.std.specs.List.{list_any};
@@ -15,8 +15,8 @@ use cal_load::{Loaded, TargetFault, TargetReason};
 use cal_timers_command::{Question, Verb};
 use std::alloc::{AllocError, Global};
 
-/// Adds a line to the answer of `list` if its first target isn't found and its name is nearly that of a verb: a
-/// misspelled verb is taken for the name of a timer.
+/// Adds a line to the answer of `list` if its first target isn't found and resembles a verb: a misspelled verb is taken
+/// for the name of a timer.
 pub(crate) fn with_verb_hint(
     alloc: Global,
     question: &Question,
@@ -31,7 +31,7 @@ pub(crate) fn with_verb_hint(
     with_notes(answer, hint.as_str())
 }
 
-/// Returns the hint at a misspelled verb, or an empty text.
+/// Returns the line that [`with_verb_hint`] adds, or an empty text.
 fn verb_hint(alloc: Global, targets: &[String], loaded: &LoadedByVerb) -> Result<String, AllocError>
     ensures { IfOk result (λ hint. string_bytes hint ≡ verb_hint (map string_bytes targets.now) loaded.now) }
 {
@@ -132,8 +132,8 @@ fn is_assumed(local: &LocalClock) -> bool
     matches!(local, LocalClock::Assumed)
 }
 
-/// Adds an error line for each target if loading the targets found nothing at all, and none of them ends in `.conf`:
-/// then they are folders without timers. Changes nothing if the question can't be answered.
+/// Adds an error line for each target if no target ends in `.conf` and loading the targets found nothing at all: then
+/// all of the targets are folders without timers. Changes nothing if the question can't be answered.
 pub(crate) fn with_empty_folders(
     alloc: Global,
     question: &Question,
@@ -184,8 +184,8 @@ fn push_folder_line(lines: &mut String, folder: &str) -> Result<(), AllocError>
     lines.push_str(": no timers in this directory\n")
 }
 
-/// Returns whether nothing may be found although the targets aren't folders: if there are none, or if one of them is a
-/// drop-in, which `lint` skips if it is a mask.
+/// Returns whether loading can find nothing although the targets aren't folders: because there are no targets, or
+/// because one of them is a drop-in. `lint` skips a drop-in that is empty or a link to `/dev/null`.
 fn may_find_nothing(targets: &[String]) -> bool
     ensures { result ≡ may_find_nothing (map string_bytes targets.now) }
 {
@@ -216,8 +216,8 @@ fn targets_after_times(question: &Question) -> &[String]
     }
 }
 
-/// Returns whether loading found nothing at all: no timer, no file, no masked unit and no error. `same`, `next` and
-/// `due` take no folders.
+/// Returns whether loading found nothing at all: no timer, no file, no masked unit and no error. For `same`, `next` and
+/// `due`, to which a folder can't be given, returns `false`.
 fn is_nothing(loaded: &LoadedByVerb) -> bool
     ensures { result ≡ is_nothing loaded.now }
 {

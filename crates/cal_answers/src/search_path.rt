@@ -1,5 +1,5 @@
 //! The search path for a question, which depends on variables of the environment. A variable that isn't UTF-8 or can't
-//! be read counts as one that isn't set.
+//! be read is treated as unset.
 
 ghost use Rattle.std.specs.Prelude.{◌≡◌, ◌≢◌, IfErr, IfOk, None, Some, map, option_map, string_bytes};
 ghost use Rattle.cal_machine.specs.rules.Machine.{Machine};
@@ -12,8 +12,8 @@ use cal_unit_index::{UserVariables, given_path, system_path, user_path};
 use std::alloc::{AllocError, Global};
 
 /// Returns the search path of a user's manager if `is_user` is `true`, and otherwise that of the system's manager.
-/// Without a search path, the question can't be answered. This is so for a user if `XDG_CONFIG_HOME` or `XDG_DATA_HOME`
-/// isn't set and `HOME` isn't an absolute path, even if `SYSTEMD_UNIT_PATH` is set.
+/// Without a search path, the question can't be answered: a user's manager has none if `XDG_CONFIG_HOME` or
+/// `XDG_DATA_HOME` isn't set and `HOME` isn't an absolute path, even if `SYSTEMD_UNIT_PATH` is set.
 pub(crate) fn search_path<T: Tree>(
     alloc: Global,
     tree: &mut T,

@@ -21,7 +21,8 @@ use cal_timers_text::{
 };
 use std::alloc::{AllocError, Global};
 
-/// Appends an error about each timer that fails to load, and a problem for each of its lines that systemd ignores.
+/// Appends the reasons why timers fail to load. If no setting starts the unit of a timer, the problems of its ignored
+/// lines come first. For all other errors, which are about files, folders or names, appends nothing.
 pub(crate) fn add_failed(
     alloc: Global,
     faults: &[TargetFault],
@@ -35,7 +36,7 @@ pub(crate) fn add_failed(
     Ok(())
 }
 
-/// Appends a problem for each line of a timer that is ignored although the file by itself is valid.
+/// Appends a problem for everything that systemd ignores in the files of the timers that were loaded.
 pub(crate) fn add_ignored_of(
     alloc: Global,
     timers: &[LoadedTimer],
@@ -49,9 +50,9 @@ pub(crate) fn add_ignored_of(
     Ok(())
 }
 
-/// Appends the reason why a timer fails to load. If systemd stops reading its file, this is the line at which it stops.
-/// If no setting starts its unit, the problems of the lines that are ignored come first. All other reasons are errors
-/// about files and are left out.
+/// Appends the reason why a timer fails to load: the line at which systemd stops reading its file, or that no setting
+/// starts its unit. In the second case, the problems of its ignored lines come first. For any other error, which is
+/// about a file, a folder or a name, appends nothing.
 fn add_fault(
     alloc: Global,
     fault: &TargetFault,
@@ -142,8 +143,8 @@ fn push_error(
     )
 }
 
-/// Appends an error for each of these lines of the timer, which are ignored because their expressions are invalid once
-/// the specifiers are filled in. Lines without specifiers have their errors already.
+/// Appends an error for each of `lines`, which are ignored because their expressions are invalid once the specifiers
+/// are filled in. The errors of lines without specifiers were found without loading the timer.
 fn add_ignored(
     alloc: Global,
     timer: &str,
@@ -182,7 +183,7 @@ fn add_ignored_line(
     )
 }
 
-/// Appends an error for each of these lines of the timer, which are ignored because of their zones.
+/// Appends an error for each of `zones`, the lines that are ignored because their zones can't be used.
 fn add_unusable_zones(
     alloc: Global,
     timer: &str,
@@ -269,8 +270,8 @@ fn add_broken_drop_in(
     )
 }
 
-/// Returns what makes `lint` leave out the line at which systemd stops reading a file: a bad section header is among
-/// the problems of the file already.
+/// Returns which problems make `lint` leave out the error for the line at which systemd stops reading a file. If this
+/// line is a bad section header, `lint` has already listed an error for it when checking the file by itself.
 fn unless_reported(reason: BrokenReason) -> Unless
     ensures { result ≡ unless_reported reason }
 {
@@ -344,8 +345,8 @@ fn add_idle_line(
     )
 }
 
-/// Returns the file of a line, and the line's number in this file. `number` is the line's number in all files of the
-/// timer, counted from file to file. For a timer without files, returns the timer's name and `number`.
+/// Returns the path of the file that has a line, and the line's number in this file. `number` is the line's continued
+/// number. If no file has the line, returns the timer's name and `number`.
 pub(crate) fn place_in<'t>(timer: &'t str, files: &'t TimerFiles, number: u32) -> (&'t str, u32)
     ensures path { result.0.now ≡ (place_in timer.now files.now number).0 }
     ensures line { result.1 ≡ (place_in timer.now files.now number).1 }
@@ -356,7 +357,7 @@ pub(crate) fn place_in<'t>(timer: &'t str, files: &'t TimerFiles, number: u32) -
     }
 }
 
-/// Returns the place as it is. It is in a function of its own, so that `line` is known to fit into 32 bits.
+/// Returns its arguments. This is a function because its contract can then state that `line`, a `u32`, is below 2^32.
 fn placed(path: &str, line: u32) -> (&str, u32)
     ensures path { result.0.now ≡ path.now }
     ensures line { result.1 ≡ line }

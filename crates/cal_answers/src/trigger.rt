@@ -1,4 +1,4 @@
-//! What a question is about on a machine: its targets or, for `due` without one, the timer that started the service.
+//! What a question is about: its targets or, for `due` without a target, the timer that started the service.
 
 ghost use Rattle.std.specs.Prelude.{◌≡◌, ◌≤◌, IfOk, length, map, string_bytes, true};
 ghost use Rattle.cal_machine.specs.rules.Machine.{Machine};
@@ -51,7 +51,8 @@ fn due_targets<T: Tree>(
     }
 }
 
-/// Returns the value of `TRIGGER_UNIT`, to which systemd sets the unit that started the service, if it names a timer.
+/// Returns the value of `TRIGGER_UNIT` if it names a timer, and otherwise an empty list. systemd sets this variable to
+/// the name of the unit that started the service.
 fn trigger<T: Tree>(alloc: Global, tree: &mut T) -> Result<Vec<String>, AllocError>
     ensures known { IfOk result (λ timers. (machine : Machine) → T.shows tree.new machine
         → map string_bytes timers.items ≡ trigger_on machine) }
@@ -69,7 +70,7 @@ fn trigger<T: Tree>(alloc: Global, tree: &mut T) -> Result<Vec<String>, AllocErr
     Ok(timers)
 }
 
-/// Checks whether this is a name that systemd gives a timer: it ends in `.timer`, and isn't a path.
+/// Returns whether this is the name of a timer as systemd would set it: it ends in `.timer` and isn't a path.
 fn is_timer_name(name: &str) -> bool
     ensures { result ≡ is_timer_name name.now }
 {

@@ -16,7 +16,7 @@ use std::alloc::Global;
 /// `raw` at most once.
 ///
 /// `clock` is the time that the machine's clock shows, in seconds of Unix time, or `None` if the clock can't be read.
-/// If the question names a present, `clock` isn't used. Fails only if allocation fails.
+/// If the question has `--now`, `clock` isn't used. Fails only if allocation fails.
 pub(crate) fn answer_on<R: Raw + Drop>(
     alloc: Global,
     raw: R,

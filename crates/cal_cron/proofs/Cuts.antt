@@ -41,7 +41,7 @@ cut_none separator text at =
     let past = ltb-false _ _ (not_found (nat_lt (position_or_len (is_it separator) text) (length text)) (position_or_len (is_it separator) text) at) in
     cut_past separator text (λ h. omega (arith, past, h))
 
--- a text is cut at its first separator: what comes before has no separator
+-- if `front` doesn't contain the separator, `cut` cuts `front`, the separator and `back` into `front` and `back`
 pub cut_joined : (separator : ℕ) (front back : List ℕ) → nat_eq separator separator ≡ true → IsClear (λ b. b == separator) front → cut separator (front ++ (separator ∷ back)) ≡ Some (record { front = front; back = back })
 cut_joined separator [] back same clear = rw same refl
 cut_joined separator (x ∷ xs) back same clear = grind (arith, cut_joined separator xs back same)

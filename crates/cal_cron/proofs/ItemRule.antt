@@ -126,7 +126,7 @@ item_found field text r at = item_by field text r (cut 47 text) refl at
 
 -- ## If the grammar allows an item, parsing it succeeds
 
--- the bytes that can be in a span, in a range `a-b`, and in an item
+-- the next three definitions: the bytes that can be in a span, in a range `a-b`, and in an item
 abbrev is_span_byte : ℕ → Bool
 is_span_byte b = (b == 42) || ((b == 45) || nat_lt 47 b)
 
@@ -160,7 +160,7 @@ value_no_slash b h = grind (arith, nat_tests)
 span_no_slash : Apart is_span_byte (λ b. b == 47)
 span_no_slash b h = grind (arith, nat_tests)
 
--- a text of the bytes of ranges and values is not `*`
+-- a text that has only bytes of ranges is not `*`
 no_star : (text : List ℕ) → list_all is_range_byte text ≡ true → bytes_eq text (codes "*") ≡ false
 no_star text all =
     false_from_ne_true (bytes_eq text (codes "*")) (λ h. let same = ap (list_all is_range_byte) ((bytes_eq-Decides text (codes "*")).0 h) in let bad : false ≡ true = sym same ∙ all in cc)

@@ -21,7 +21,7 @@ use Rattle.cal_cron.specs.computed.Translation.{component_of, is_all, is_open, p
 use Rattle.cal_cron.specs.rules.CronMatch.{field_has, range_has}
 use Rattle.cal_cron.specs.declared.items.CronRange.{CronRange}
 
--- a law of cal_spec: a component has a normal form
+-- what a law of cal_spec says: `normal_component` returns the normal form of a component
 abbrev pub HasNormal : Type 0
 HasNormal = (raw : Option (List Part)) → AreParts raw → IsNormalOf raw (normal_component raw)
 
@@ -56,7 +56,7 @@ no_further a b r e v positive last low high reached =
           absurd (omega (arith, last.last, last.from)))
     ]
 
--- if `e` is the last number that a range from `a` to `b` reaches, the range to `e` matches the same numbers
+-- if `e` is the last number that a range from `a` to `b` reaches, the range from `a` to `e` matches the same numbers
 last_between : (a b r e v : ℕ) → 0 < r → IsLastReached a b r e → is_step_between a e r (v - a) v ≡ is_step_between a b r (v - a) v
 last_between a b r e v positive last = both_ways (is_step_between a e r (v - a) v) (is_step_between a b r (v - a) v)
     (λ h.

@@ -114,14 +114,14 @@ all_step low high r rs value true is each test rest any =
 all_step low high r rs value false is each test rest any =
     ap (λ b. range_has r value || b) (rest any) ∙ absorbed (range_has r value) (is_between low high value) (range_within low high r value is)
 
--- if one of the ranges has all numbers, the field has them
+-- if one of the ranges has all numbers from `low` to `high`, the field has exactly these numbers
 all_has : (low high : ℕ) (rs : List CronRange) (value : ℕ) → AllByRecursion (IsRange low high) rs
     → list_any (λ (q : CronRange). nat_eq q.first low && (nat_eq q.last high && nat_eq q.step 1)) rs ≡ true → field_has rs value ≡ is_between low high value
 all_has low high [] value each any = cc
 all_has low high (r ∷ rs) value each any =
     all_step low high r rs value (nat_eq r.first low && (nat_eq r.last high && nat_eq r.step 1)) each.0 each.1 refl (all_has low high rs value each.1) any
 
--- if one of the ranges has all numbers of the slot, `*` matches the numbers that the ranges have
+-- if one of the ranges has all numbers of the slot, `*` matches the same numbers as the ranges
 pub star_same : (slot : Slot) (rs : List CronRange) (value : ℕ) → IsUpward slot → AllByRecursion (IsIn slot) rs → list_any (is_all slot) rs ≡ true → star_has slot value ≡ field_has rs value
 star_same slot rs value up each is = star_up slot value up ∙ sym (all_has (least slot) (greatest slot) rs value each is)
 

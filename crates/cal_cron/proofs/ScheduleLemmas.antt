@@ -1,4 +1,4 @@
--- The fields of the expressions of a schedule are valid, and match when the schedule does.
+-- The expressions of a cron schedule have valid fields, and match if and only if the schedule does.
 use Rattle.std.proofs.Common.{◌≡◌, ◌∙◌, ℕ, ◌/◌, ◌%◌, ◌≤◌, cond, Bool, true, false, ◌&&◌, ◌||◌, nat_eq, nat_le, nat_lt, ℤ, pos, negsuc, ◌≤ℤ◌, unsigned_abs, List, [], ◌∷◌, length, get_or, Option, None, Some, Ok, Err, refl, ap, arith}
 use Rattle.std.specs.Prelude.{IfErr, IfOk, Result}
 use Rattle.cal_bytes.specs.rules.AndThen.{◌>>=◌}

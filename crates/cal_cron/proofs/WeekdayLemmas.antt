@@ -26,7 +26,7 @@ weekday_same rs day h = seven (λ d. weekday_has rs d) day h
 pub week_same : (day : ℕ) → day < 7 → get_or all_week day false ≡ true
 week_same day h = seven (λ d. true) day h
 
--- if a field has a number, it has the weekday of this number
+-- if a field has a number from 0 to 7, it has the weekday with this number
 day_chosen : (rs : List CronRange) (n : ℕ) → n ≤ 7 → field_has rs n ≡ true → (day : ℕ) × (day < 7) × (weekday_has rs day ≡ true)
 day_chosen rs zero h has = (6, omega arith, or_left (field_has rs 0) (field_has rs 7) has)
 day_chosen rs (suc zero) h has = (0, omega arith, or_left (field_has rs 1) false has)
@@ -53,7 +53,7 @@ pub week_length : (rs : List CronRange) → length (weekdays_of rs) ≡ 7
 unfolding weekdays_of
 week_length rs = refl
 
--- a field has at least one weekday
+-- a field with valid ranges has at least one weekday
 pub some_weekday : (rs : List CronRange) → AreRanges 0 7 rs → list_any (λ d. d) (weekdays_of rs) ≡ true
 some_weekday rs are =
     let number = some_has rs are in

@@ -7,8 +7,8 @@ ghost use Rattle.cal_cron.specs.rules.CronMessages.{fault_start, fields_end, wor
 use crate::{CronFault, CronField};
 use cal_bytes::{blanks_in_front, word_len};
 
-/// Returns the index of the byte at which the field with the error begins, if [`crate::read_cron`] fails with this
-/// error for this text. If the error isn't in a field, returns the index of the first byte that isn't a blank.
+/// Returns the index of the byte at which the invalid field begins, for the error with which [`crate::read_cron`] fails
+/// for this text. If the error isn't in a field, returns the index of the first byte that isn't a blank.
 pub fn fault_start(text: &str, fault: CronFault) -> usize
     ensures value { result ≡ fault_start text.now fault }
     ensures within { result ≤ length text.now }
@@ -46,7 +46,8 @@ pub(crate) fn word_start(text: &[u8], from: usize) -> usize
     from + blanks_in_front(&text[from..])
 }
 
-/// Returns the index after the first word that begins at or after `from`, or the length of the text.
+/// Returns the index directly after the first word that begins at or after `from`, or the length of the text if there
+/// is no such word.
 pub(crate) fn word_end(text: &[u8], from: usize) -> usize
     requires { from ≤ length text.now }
     ensures value { result ≡ word_end text.now from }

@@ -22,16 +22,17 @@ use std::alloc::Global;
 #[derive(Debug, Drop)]
 pub struct CronExprs {
     pub first: Expr,
-    /// The expression of the weekdays, if the line names both days of the month and weekdays.
+    /// The expression for the weekdays, if the line names both days of the month and weekdays, and cron runs it on days
+    /// that match either.
     pub other: Option<Expr>,
 }
 
-/// Parses the time fields of a crontab line, and returns the expressions that elapse when cron runs it: at each local
-/// second one of them matches if and only if cron runs the line then.
+/// Parses the time fields of a crontab line, and returns expressions that elapse when cron runs the line: at each local
+/// second, at least one of them matches if and only if cron runs the line then.
 ///
 /// The first error from left to right is reported, with its field. Fails with [`CronFault::NoMemory`] only if
-/// allocation fails; any other error says that the grammar of crontab(5) doesn't allow the text, or, if it is
-/// [`CronFault::Reboot`], that the text has no calendar time.
+/// allocation fails, and with [`CronFault::Reboot`] for `@reboot`, which has no calendar time. All other errors mean
+/// that the grammar of crontab(5) doesn't allow the text.
 pub fn read_cron(alloc: Global, text: &str) -> Result<CronExprs, CronFault>
     ensures exprs { LineGivesUnlessNoMemory shown_exprs result (exprs_in text.now) }
     ensures runs { IfOk result (λ exprs. RunsAs text.now exprs.first exprs.other) }
@@ -49,8 +50,8 @@ fn read_exprs(alloc: Global, text: &str) -> Result<CronExprs, CronFault>
     exprs_of(alloc, &line)
 }
 
-/// Translates the fields of a line to two expressions, one for the days of the month and one for the weekdays, or to a
-/// single one if `line.star`.
+/// Translates the fields of a line to a single expression if `line.star`, and otherwise to two expressions, one for the
+/// days of the month and one for the weekdays.
 #[tactic(auto, unfolding(crate::specs::computed::Translation::exprs_of))]
 fn exprs_of(alloc: Global, line: &CronLine) -> Result<CronExprs, CronFault>
     requires { IsSchedule (shown_line line.now) }

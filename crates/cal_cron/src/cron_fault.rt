@@ -11,7 +11,7 @@ use thiserror::Error;
 /// Why a text is not the time fields of a crontab line.
 #[derive(Clone, Copy, PartialEq, Eq, Debug, Error)]
 pub enum CronFault {
-    /// The text doesn't have five fields, nor one word that begins with `@`.
+    /// The text has neither five fields nor a single word that begins with `@`.
     #[error("expected five fields")]
     FieldCount,
     /// The word after `@` is unknown.

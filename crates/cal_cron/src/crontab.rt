@@ -7,10 +7,10 @@ ghost use Rattle.cal_cron.specs.rules.CrontabLines.{format_of_path};
 use crate::{CronExprs, CronFault};
 use std::alloc::AllocError;
 
-/// What kind of crontab a text is.
+/// The format of a crontab: what follows the time fields of its entries.
 #[derive(Clone, Copy, PartialEq, Eq, Debug)]
 pub enum CrontabFormat {
-    /// Lines that are given as arguments. A command may follow the time fields, but no user.
+    /// Lines that are given as arguments. A command, but no user, may follow the time fields.
     Argument,
     /// The crontab of a user. A command follows the time fields.
     User,
@@ -49,7 +49,7 @@ pub enum LineContent<'t> {
     Invalid(LineFault),
 }
 
-/// The assignment of a value to a variable. It holds for the entries below it.
+/// The assignment of a value to a variable, which applies to the entries below it.
 #[derive(Clone, Copy)]
 pub struct Assignment<'t> {
     pub name: &'t str,
@@ -63,9 +63,10 @@ pub struct CrontabEntry<'t> {
     pub time: EntryTime,
     /// The user as whom the command runs, if the entry names a user.
     pub user: Option<&'t str>,
-    /// The command, which ends before the first `%` that no backslash escapes.
+    /// The command, which ends before the first `%` that isn't escaped by a backslash.
     pub command: &'t str,
-    /// The input of the command, after the `%` that ends it. Each further `%` stands for a line feed.
+    /// The input of the command: the text after the `%` at which the command ends. Each further `%` stands for a line
+    /// feed.
     pub input: Option<&'t str>,
 }
 
@@ -91,9 +92,9 @@ pub struct LineFault {
 pub enum EntryFault {
     /// The time fields are invalid. This is never [`CronFault::Reboot`] or [`CronFault::NoMemory`].
     Time(CronFault),
-    /// Nothing follows the time fields, and the crontab is a system crontab, whose entries name a user.
+    /// Nothing follows the time fields, although each entry of a system crontab names a user.
     NoUser,
-    /// No command follows the time fields and the user.
+    /// No command follows the time fields or, in a system crontab, the user.
     NoCommand,
 }
 

@@ -23,8 +23,8 @@ use std::alloc::{AllocError, Global};
 /// Reads the lines of a crontab (crontab(5)): its entries, the variables that it sets, and the errors in it, in the
 /// order of the lines. Blank lines and comments are left out. Fails only if allocation fails.
 ///
-/// Commands are never run, and the names of users aren't checked. A variable `CRON_TZ` is returned like any other one:
-/// callers should tell their users that no expression is in its zone.
+/// Commands are never run, and the names of users aren't checked. The variable `CRON_TZ` is returned like any other
+/// variable: it doesn't change the zone of the expressions, and callers should tell their users so.
 pub fn read_crontab<'t>(
     alloc: Global,
     format: CrontabFormat,
@@ -115,7 +115,7 @@ fn read_entry<'t>(
     }
 }
 
-/// Parses the time fields of an entry. Unlike for [`read_cron`], `@reboot` isn't an error.
+/// Parses the time fields of an entry as [`read_cron`] does, except that `@reboot` isn't an error.
 fn read_time(alloc: Global, text: &str) -> Result<EntryTime, CronFault>
     ensures { LineGivesUnlessNoMemory time_shown result (time_of (exprs_in text.now)) }
 {
@@ -126,8 +126,8 @@ fn read_time(alloc: Global, text: &str) -> Result<EntryTime, CronFault>
     }
 }
 
-/// Returns the entry with this time, or the error if its user or its command is missing. `text` is the line after the
-/// time fields.
+/// Returns the entry with this time, or the error that its user or its command is missing. `text` is the part of the
+/// line after the time fields.
 fn entry_for<'t>(
     format: CrontabFormat,
     line: &'t str,

@@ -10,8 +10,8 @@ use crate::{CronField, FieldFault};
 use cal_spec::first_piece;
 use std::alloc::Global;
 
-/// The maximum number of items of a field. An expression has parts from four fields, so it has at most the 240 parts
-/// that are allowed.
+/// The maximum number of items of a field. An expression has parts from four fields, so it has at most 240 parts, as
+/// many as an expression may have.
 const MAX_ITEMS: usize = 60;
 
 /// Parses a field of a crontab line: one to 60 items that are separated by commas.

@@ -1,4 +1,4 @@
-//! Parsing of an item of a field: `a`, `a-b` or `*`, or one of the latter two with a step, `/s`.
+//! Parsing of an item of a field: `a`, `a-b` or `*`, or one of `a-b` and `*` followed by a step, `/s`.
 
 ghost use Rattle.std.specs.Prelude.{◌≡◌, ◌==◌, option_map};
 ghost use Rattle.std.specs.List.{position};

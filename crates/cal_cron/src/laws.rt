@@ -25,8 +25,8 @@ pub fn ranges_have_what_they_reach()
     ensures only { (r : CronRange) (value : ℕ) → 0 < r.step → IsReached r value → range_has r value ≡ true }
 {}
 
-/// Every line that the grammar allows has expressions, and at each local second one of them matches if and only if the
-/// schedule of the line does.
+/// Every line that the grammar allows has expressions. At each local second, at least one of them matches if and only
+/// if the schedule of the line matches.
 pub fn expressions_elapse_when_cron_runs()
     ensures some { (text : List ℕ) (s : Schedule) → IsLine text s → exprs_in text ≡ Ok (exprs_of s) }
     ensures same { (text : List ℕ) (s : Schedule) (local : ℕ) → IsLine text s

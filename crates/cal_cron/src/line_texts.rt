@@ -52,7 +52,7 @@ pub(crate) fn says_nothing(line: &str) -> bool
     matches!(line.as_bytes(), [] | [b'#', ..])
 }
 
-/// Parses a line as the assignment of a value to a variable. Returns `None` if it isn't one.
+/// Parses a line as the assignment of a value to a variable. Returns `None` if the line isn't an assignment.
 #[tactic(auto, unfolding(crate::specs::rules::CrontabLines::assignment_in))]
 pub(crate) fn assignment_in(line: &str) -> Option<Assignment<'_>>
     ensures { option_map assignment_shown result ≡ assignment_in line.now }
@@ -127,7 +127,7 @@ fn user_and_command(text: &str) -> JobTexts<'_>
     )
 }
 
-/// Splits a text at the first `%` that no backslash escapes: before it is the command, and after it the input.
+/// Splits a text at the first `%` that isn't escaped by a backslash, into the command before it and the input after it.
 #[tactic(auto, unfolding(crate::specs::rules::CrontabLines::job_of))]
 fn job_of<'t>(user: Option<&'t str>, text: &'t str) -> JobTexts<'t>
     ensures { job_shown result ≡ job_of (option_copied user.entry) text.now }
@@ -140,7 +140,7 @@ fn job_of<'t>(user: Option<&'t str>, text: &'t str) -> JobTexts<'t>
     }
 }
 
-/// Returns the number of bytes of the command at the start of the text.
+/// Returns the length in bytes of the command with which the text begins.
 #[tactic(auto, using(crate::proofs::CommandLemmas::command_step, crate::proofs::CommandLemmas::command_end))]
 fn command_len(text: &[u8]) -> usize
     ensures value { result ≡ command_len false text.now }
@@ -179,7 +179,7 @@ fn command_until(text: &str, end: usize) -> &str
     &text[..end]
 }
 
-/// Returns the text after the `%` at this index, or `None` if the text ends there.
+/// Returns the text after the `%` at `index`, or `None` if `index` is the end of the text.
 fn input_at(text: &str, index: usize) -> Option<&str>
     requires within { index ≤ length text.now }
     requires percent { index < length text.now → slice_index text.now index ≡ 37 }
@@ -201,7 +201,7 @@ pub(crate) fn text_until(text: &str, end: usize) -> &str
     &text[..end]
 }
 
-/// Returns `text` without its first `start` bytes. At this index must be a blank or the end of the text.
+/// Returns `text` without its first `start` bytes. A blank or the end of the text must be at `start`.
 pub(crate) fn text_from(text: &str, start: usize) -> &str
     requires within { start ≤ length text.now }
     requires blank { start < length text.now → is_blank (slice_index text.now start) ≡ true }

@@ -52,8 +52,8 @@ fn is_all(slot: Slot, range: CronRange) -> bool
     range.first == slot.least() && range.last == slot.greatest() && range.step == 1
 }
 
-/// Translates a range. A range with a step becomes a repetition without an end, as people write it, if systemd 252
-/// computes that correctly, and otherwise a range with its end.
+/// Translates a range. A range with a step becomes a repetition without an end, such as `0/5`, if systemd 252 computes
+/// the repetition correctly: this is how people write such ranges. Otherwise, the part keeps the end of the range.
 #[tactic(auto, unfolding(crate::specs::computed::Translation::part_of))]
 fn part_of(slot: Slot, range: CronRange) -> Part
     ensures { result ≡ part_of slot range }
@@ -82,8 +82,8 @@ fn is_open(slot: Slot, range: CronRange) -> bool
         && (distance.is_multiple_of(range.step) || goes_round(slot, range))
 }
 
-/// Returns whether the step, continued past the greatest number of the months or minutes, comes back to the least
-/// number. Hours don't count: if a step comes back to hour 0, systemd 252 fails in zones whose clock is set forward at
+/// Returns whether a step in the months or minutes, continued past the greatest number, comes back to the least number.
+/// Returns `false` for hours: if a step comes back to hour 0, systemd 252 fails in zones whose clock is set forward at
 /// midnight.
 fn goes_round(slot: Slot, range: CronRange) -> bool
     ensures { result ≡ goes_round slot range }

@@ -17,8 +17,8 @@ pub(crate) struct LineTexts<'a> {
 }
 
 /// Returns the fields that the word stands for. Fails with [`CronFault::Reboot`] for `@reboot`, with
-/// [`CronFault::UnknownShortcut`] for any other word that begins with `@`, and with [`CronFault::FieldCount`]
-/// otherwise.
+/// [`CronFault::UnknownShortcut`] for an unknown word that begins with `@`, and with [`CronFault::FieldCount`] for a
+/// word that doesn't begin with `@`.
 #[tactic(auto, unfolding(crate::specs::computed::Lines::shortcut_in))]
 pub(crate) fn read_shortcut(word: &[u8]) -> Result<LineTexts<'static>, CronFault>
     ensures { LineGives shown_texts result (shortcut_in word.now) }
@@ -37,7 +37,7 @@ pub(crate) fn begins_with_at(word: &[u8]) -> bool
     matches!(word, [b'@', ..])
 }
 
-/// Returns the fields that the word stands for, or `None` if it stands for none.
+/// Returns the fields that the word stands for, or `None` if the word doesn't stand for fields.
 fn shortcut_named(word: &[u8]) -> Option<LineTexts<'static>>
     ensures { option_map shown_texts result ≡ shortcut_named word.now }
 {

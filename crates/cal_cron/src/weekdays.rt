@@ -22,7 +22,8 @@ pub(crate) fn weekdays_of(ranges: &[CronRange]) -> [bool; 7]
     ]
 }
 
-/// Returns whether the field has the weekday, which is counted from 0 for Monday. The field has 0 and 7 for Sunday.
+/// Returns whether the field has the weekday `day`, counted from 0 for Monday. In the field, Monday is 1, and both 0
+/// and 7 are Sunday.
 fn weekday_has(ranges: &[CronRange], day: u16) -> bool
     requires { day < 7 }
     ensures { result ≡ weekday_has ranges.now day }

@@ -22,8 +22,8 @@ pub have_all : (masks others : List ℕ) → length others ≡ 4 → HasAll (is_
 unfolding is_bit_in
 have_all masks others four first second third fourth i = grind (arith, get_or, length, get_or-eq_default, is_bit-none)
 
--- Suppose that both masks count days from the same end of the month. If each field of `masks` has all bits of the same
--- field of `others`, then `masks` has every value that `others` has, field by field.
+-- Suppose that `masks` and `others` count days from the same end of the month. If each field of `masks` has all bits of
+-- the same field of `others`, then `masks` has every value that `others` has, field by field.
 pub among : (masks others : Masks) → HasAll (is_bit masks.weekdays) (is_bit others.weekdays) → HasAll (is_bit_in masks.years) (is_bit_in others.years)
     → HasAll (is_bit masks.months) (is_bit others.months) → HasAll (is_bit masks.days) (is_bit others.days) → HasAll (is_bit masks.hours) (is_bit others.hours)
     → HasAll (is_bit masks.minutes) (is_bit others.minutes) → HasAll (is_bit masks.seconds) (is_bit others.seconds) → masks.from_end ≡ others.from_end

@@ -23,8 +23,8 @@ first_then passes from mid end r none low rest = grind arith
 pub first_within : (passes : ℕ → Bool) (from mid end s : ℕ) → mid ≤ end → IsFirstPassing passes from mid (Some s) → IsFirstPassing passes from end (Some s)
 first_within passes from mid end s low found = (found.0, omega (arith, found.1), found.2, found.3)
 
--- for each high part a below `limit` and each low part b below `size`, the number a * size + b passes if and only if a
--- passes the test `high` and b passes the test `low`
+-- for each high part `a` below `limit` and each low part `b` below `size`, the number `a` * `size` + `b` passes if and
+-- only if `a` passes the test `high` and `b` passes the test `low`
 pub record Splits (passes high low : ℕ → Bool) (size limit : ℕ) : Type 0 where
   pub positive : 0 < size
   pub split : (a b : ℕ) → a < limit → b < size → passes (a * size + b) ≡ (high a && low b)

@@ -21,8 +21,8 @@ ones_are length k short =
       | inr high ↦ (let out : nat_lt k length ≡ false = grind (arith, nat_tests) in rw out (is_bit-zero (2 ^ length - 1) k (bit_at_ones_above length k high)))
     ])
 
--- in the mask of days, which has one bit for each day that an expression matches, the bit of the day with index `k` in
--- a month is `k` bits above the bit of the month's first day
+-- in the mask of days, which has one bit for each day of a month, the bit of the day with the zero-based index `k` is
+-- `k` bits above the bit of the month's first day
 day_at : (days : ℕ) (from_end : Bool) (length k : ℕ) → length ≤ 31 → k < length
     → ((nat_le 1 (if from_end then length - k else k + 1) && nat_le (if from_end then length - k else k + 1) 31)
     && is_bit days (day_place from_end (if from_end then length - k else k + 1)))
@@ -55,7 +55,7 @@ days_are m n first length lowest ones k within begins long place member small al
     (day ∙ (rw (number, ← weekday)
     (sym (in_order (is_bit m.days ((if m.from_end then 31 - length_of n else 0) + k)) (is_bit m.weekdays ((first_day n + 3) % 7 + k)) _ _ member))))))
 
--- if exactly the lowest `length` bits of `ones` are set, no other bits are set in the bitwise AND of `ones` and any
--- word
+-- if exactly the lowest `length` bits of `ones` are set, then in the bitwise AND of `ones` and any word, only bits
+-- below bit `length` can be set
 pub days_end : (bits ones length k : ℕ) → ((i : ℕ) → is_bit ones i ≡ nat_lt i length) → is_bit (bit_and bits ones) k ≡ true → k < length
 days_end bits ones length k all holds = grind (arith, nat_lt, nat_tests, bit_and, is_bit-and, and_right)

@@ -25,8 +25,8 @@ record IsPlaceFrom (e : Timed) (a n : ℕ) (i : ℤ) : Type 0 where
   is_match : e.matches local ≡ true
   placed : e.place local ≡ Some i
 
--- If `b` is true, put the number in `o`, if there is one, in front of `rest`. The resulting list contains exactly the
--- numbers of `rest` and, if `b` is true, the number in `o`.
+-- Suppose that the number in `o`, if there is one, is put in front of `rest` if `b` is true. The resulting list
+-- contains exactly the numbers of `rest` and, if `b` is true, the number in `o`.
 Has-one : (b : Bool) (o : Option ℤ) (rest : List ℤ) (i : ℤ) → Has (cond b (cons_option o rest) rest) i ↔ (((b ≡ true) × (o ≡ Some i)) ⊎ Has rest i)
 Has-one b o rest i = grind arith
 
@@ -247,5 +247,5 @@ pub without-elapses : (es exceptions : List Timed) (b : ℤ) → without (union 
 unfolding elapses_except
 without-elapses es exceptions b = rw (union-elapses_after es b, union-elapses_after exceptions b)
 
--- the lemmas for the laws about continuing a list of elapses
+-- the lemmas for the laws `elapses_of_each`, `elapses_go_on` and `elapses_in_parts`
 pub ruleset continued = (elapses_except-later, elapses_except-parts, without-elapses)

@@ -95,7 +95,7 @@ examined_some sets from index next place old new low high within small none hold
 pub examined_most : (sets : Sets) (n from : ℕ) (r : Option ℕ) → IsFirstPassing (day_in sets) from 84_006 r → examined_from sets n r ≤ 2_760
 examined_most sets n from r none = grind (arith, count_from-most, located)
 
--- a search that starts at the end of 2199 examines no months
+-- a search that starts after 2199-12-31, the last day, examines no months
 pub examined_end : (sets : Sets) → examined_from sets (month_of (civil_date 84_006)) None ≡ 0
 unfolding count_from
 examined_end sets =

@@ -19,7 +19,7 @@ use Rattle.cal_bytes.proofs.General.{below_end}
 
 -- No local second between `local` and `start` passes. `minute` and `second` are the highest set bits of `minutes` and
 -- `seconds`, and `last` is `minute` minutes and `second` seconds after `start`, in the hour of `local`. Up to `last`,
--- the local second that is a minutes and s seconds after `start`, where s is below 60, passes if and only if bit a of
+-- the local second that is m minutes and s seconds after `start`, where s is below 60, passes if and only if bit m of
 -- `minutes` and bit s of `seconds` are set.
 pub record AreInHour (passes : ℕ → Bool) (local start minutes seconds minute second last : ℕ) : Type 0 where
   pub later : local < start
@@ -125,8 +125,8 @@ module _ (passes : ℕ → Bool) (local start minutes seconds minute second last
       let both = and_parts _ _ (sym (h.bits_say a s (omega arith) (omega arith)) ∙ (sym (ap passes place) ∙ holds)) in
       record { minute = a; second = s; minute_set = both.0; second_set = both.1; is = of_at start (a * 60 + s) t (omega arith) }
 
-  -- Let a be less than `minute`. Of the 60 local seconds that begin a minutes after `start`, as many pass as `seconds`
-  -- has set bits if bit a of `minutes` is set, and otherwise none.
+  -- Let `a` be less than `minute`. Of the 60 local seconds that begin `a` minutes after `start`, as many pass as
+  -- `seconds` has set bits if bit `a` of `minutes` is set, and otherwise none.
   minute_counted : (a : ℕ) → a < minute → count_from passes (start + a * 60) 60 ≡ cond (is_bit minutes a) 1 0 * count_ones seconds
   minute_counted a early =
       let small = h.small in
@@ -190,9 +190,9 @@ module _ (passes : ℕ → Bool) (local start minutes seconds minute second last
         counted = all_counted;
       }
 
--- A search that starts just after `local` examines one month, and finds the first of the matches for which the bits of
--- `minutes` and `seconds` stand. This match is m minutes and s seconds after `start`, where m and s are the lowest set
--- bits.
+-- A search that starts just after `local` examines one month, and finds the first of the matches that the bits of
+-- `minutes` and `seconds` stand for. This match is `minute` minutes and `second` seconds after `start`, if these are
+-- the lowest set bits of `minutes` and `seconds`.
 pub search_next : (m : Masks) (local start minutes seconds last minute second : ℕ) → AreNext (matches (sets_in m)) local start minutes seconds last → IsFirstPassing (is_bit minutes) 0 64 (Some minute)
     → IsFirstPassing (is_bit seconds) 0 64 (Some second) → IsSearch (sets_in m) (local + 1) (record { local = Some (pos (start + (minute * 60 + second))); months = 1 })
 search_next m local start minutes seconds last minute second next minute_first second_first =

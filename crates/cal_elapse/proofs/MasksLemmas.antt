@@ -49,7 +49,8 @@ pub day_both : (from_end : Bool) (c : Option (List Part)) (v : ℕ) → IsValidC
     → (1 ≤ v) × (v < 1 + 31)
 day_both from_end c v sound h = grind (arith, component_both)
 
--- a mask is computed bit by bit, from the lowest bit on; before the first bit is computed, no bit is set
+-- a mask is computed bit by bit, from the lowest bit on; before the first bit is computed, the mask is 0, so no bit is
+-- set
 pub filled_none : (has : ℕ → Bool) (i : ℕ) → is_bit 0 i ≡ (nat_lt i 0 && has i)
 filled_none has i = let out = le-ltb i 0 (omega arith) in rw out (is_bit-none i)
 

@@ -127,7 +127,7 @@ members_near cells low i j m n =
 pub same_second : (low i j : ℕ) → low ≤ i → i < low + 187_200 → low ≤ j → j < low + 187_200 → i % 187_200 ≡ j % 187_200 → i ≡ j
 same_second low i j il ih jl jh same = omega arith
 
--- the one second in the range `low..low + 187_200` that has the same cell as `i`
+-- `at` is the one second in the range `low..low + 187_200` that has the same cell as `i`
 record Turned (low i : ℕ) : Type 0 where
   at : ℕ
   above : low ≤ at

@@ -175,7 +175,7 @@ placed_of e i p = record { local = p.local; below = p.within; is_match = p.is_ma
 elapse_of : (e : Timed) (bound : ℕ) (i : ℤ) → bound ≤ seconds_in_all → IsPlacedBelow e bound i → IsPlace e i
 elapse_of e bound i h p = record { local = p.local; within = omega arith; is_match = p.is_match; placed = p.placed }
 
--- if nothing is pending and nothing has to be converted, no match is left
+-- if nothing is pending, and no match has to be converted before an instant can be returned, then no match is left
 pub all_placed : (ahead : Option ℤ) → to_place ahead None ≡ None → ahead ≡ None
 all_placed ahead h = grind arith
 
@@ -200,7 +200,7 @@ least_place e from ahead last x j xs near w full above p =
       | inr late ↦ later_place ahead x j p.local full late p.within (near p.local j p.placed).0
     ]
 
--- the smallest pending instant is the next elapse if nothing has to be converted before it
+-- the smallest pending instant is the next elapse if no match has to be converted before it can be returned
 pub full_first : (e : Timed) (from : ℕ) (ahead : Option ℤ) (last : ℤ) (xs : List ℤ) → AreNear e → Windowed e from (bound_of ahead) last xs → IsMatchAhead e ahead
     → to_place ahead (slice_get xs 0) ≡ None → slice_get (elapses_after (e ∷ []) last) 0 ≡ slice_get xs 0
 full_first e from ahead last [] near w found full =
@@ -232,7 +232,7 @@ taken_ready v i last xs h at same rest =
       examined = h.examined;
     }
 
--- if a window is ready and nothing has to be converted first, its smallest pending instant is the next elapse
+-- if a window is ready, and no match has to be converted first, its smallest pending instant is the next elapse
 pub first_given : (v : Window) → IsReady v → to_place v.ahead (slice_get v.pending 0) ≡ None → slice_get (elapses_after (timed_of v ∷ []) v.last) 0 ≡ slice_get v.pending 0
 first_given v h full = full_first (timed_of v) (start_of v.base) v.ahead v.last v.pending (timed_by-near v.searcher.masks v.place_cache) h.windowed h.found full
 

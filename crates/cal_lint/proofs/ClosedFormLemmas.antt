@@ -21,7 +21,7 @@ use Rattle.cal_spec.specs.declared.field.Field.TheVariants.{Year, Month, Day, Ho
 use Rattle.cal_lint.specs.rules.ClosedSteps.{has_same_numbers, is_same_field}
 use Rattle.cal_lint.specs.rules.OpenSteps.{count_of, first_number}
 
--- two lists of truth values that the comparison of arrays calls equal are equal
+-- two lists of Booleans are equal if comparing them as arrays says so
 pub same_list : (xs ys : List Bool) → pointwise beq xs ys ≡ true → xs ≡ ys
 same_list [] [] same = refl
 same_list [] (y ∷ ys) same = absurd (false≢true same)

@@ -7,7 +7,8 @@ use Rattle.std.proofs.lemmas.Bool.{and_parts, cases_lt}
 use Rattle.std.proofs.lemmas.Bool.Decides.{nat_tests}
 use Rattle.cal_spec.specs.rules.Members.{is_step_between}
 
--- if `v` is one of the numbers `s`, `s` - `r`, .. that are at least 1, it can be reached upwards from the least of them
+-- if `v` is one of the numbers `s`, `s` - `r`, .. that are at least 1, it can be reached from the least of them in
+-- steps of `r`
 reached_down : (s r v : ℕ) → 0 < r → 1 ≤ v → v ≤ s → (s - v) % r ≡ 0 → ((s - 1) % r + 1 ≤ v) × ((v - ((s - 1) % r + 1)) % r ≡ 0)
 reached_down s r v some low high even =
     let q = (s - 1) / r in
@@ -24,7 +25,8 @@ reached_down s r v some low high even =
     let left : v - ((s - 1) % r + 1) ≡ r * q - r * k = omega (arith, whole, below, even, low, high, products) in
     (omega (arith, whole, below, even, low, high, products), ap (λ (n : ℕ). n % r) (left ∙ sym (mul-sub r q k)) ∙ mul-mod_right r (q - k))
 
--- the converse of `reached_down`: what is reached upwards from the least of the numbers is one of them
+-- the converse of `reached_down`: if `v` is at most `s`, and can be reached in steps of `r` from the least of the
+-- numbers `s`, `s` - `r`, .. that are at least 1, then `v` is one of these numbers
 reached_up : (s r v : ℕ) → 0 < r → (s - 1) % r + 1 ≤ v → v ≤ s → (v - ((s - 1) % r + 1)) % r ≡ 0 → (s - v) % r ≡ 0
 reached_up s r v some low high even =
     let q = (s - 1) / r in

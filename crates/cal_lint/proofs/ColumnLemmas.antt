@@ -28,7 +28,7 @@ none_passing p zero a o lacks = refl
 none_passing p (suc n) a o lacks =
     rw (lacks a (omega arith) (omega arith)) (none_passing p n (a + 1) o (λ k from before. lacks k (omega arith) (omega arith)))
 
--- if `last_or` returns `r` for `xs` with any default, it also does if `a` may come first
+-- if `last_or` returns `r` for `xs`, whatever the default is, it returns `r` whether or not `a` is put in front of `xs`
 first_or_not : (b : Bool) (o : Option ℕ) (a : ℕ) (xs : List ℕ) (r : Option ℕ) → ((o' : Option ℕ) → last_or o' xs ≡ r)
     → last_or o (cond b (a ∷ xs) xs) ≡ r
 first_or_not true o a xs r h = h (Some a)

@@ -29,7 +29,8 @@ faults_of_one file e =
 abbrev placed : OpenSection → ℕ → List ℕ → PlacedLine
 placed section n text = record { section = section; line = line_at n text }
 
--- the problems `old` of the lines before a line, and those of this line, are the problems `new` of all lines up to it
+-- if the problems so far, followed by those of the remaining lines, are all problems, this is still true after the
+-- problems of the next line were added
 pub one_line_more : (faults shown : List FileFault) (physical lines : List (List ℕ)) (section after : OpenSection) (n : ℕ) (logical text line : List ℕ)
     (here rest : List Line) (old new all : List FoundProblem)
     → shown ≡ faults → physical ≡ lines → line ≡ physical_line physical n

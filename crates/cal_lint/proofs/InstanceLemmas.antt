@@ -27,7 +27,7 @@ after_letter-none : (text : List ℕ) → ((rest : List ℕ) → text ≢ 105 �
 after_letter-none [] no_small no_capital = refl
 after_letter-none (byte ∷ bytes) no_small no_capital = grind (arith, nat_tests, no_small bytes, no_capital bytes)
 
--- if a text doesn't begin with `i`, then what `strip_prefix` returns for `I` is the text after its first letter
+-- if a text doesn't begin with `i`, then `strip_prefix` returns for `I` what `after_letter` returns
 pub after_letter-second : (text : List ℕ) (r : Option (Bor (List ℕ))) → ((rest : List ℕ) → text ≢ 105 ∷ rest)
     → MatchOption r ((rest : List ℕ) → text ≢ 73 ∷ rest) (λ after. text ≡ 73 ∷ after.now)
     → option_map (λ after. after.now) r ≡ after_letter text

@@ -29,7 +29,7 @@ flaw month day hour minute = flaw_of (record {
   zone = None;
 })
 
--- elapses of `*:0/7`, `0/5:00` and `*-*-1/8` are lost
+-- systemd 252 loses elapses of `*:0/7`, `0/5:00` and `*-*-1/8`
 minutes : flaw None None None (step 0 7) ≡ Some (LosesElapses Minute)
 unfolding flaw step flaw_of sets_of part_has
 minutes = refl

@@ -1,5 +1,5 @@
--- The assignment in a line has the line's number, and its problems are those of the line. The problems of a line that
--- begins with `[` begin after its leading blanks.
+-- An assignment has the number of its line, and the problems of the assignment are those of the line. The problems of a
+-- line that begins with `[` begin after the line's leading blanks.
 use Rattle.std.proofs.Common.{◌≡◌, ◌==◌, ℕ, Bool, true, false, List, None, Some, ap, length, map, refl, sym}
 use Rattle.std.specs.Prelude.{if◌then◌else◌}
 use Rattle.std.specs.Option.{option_to_list}

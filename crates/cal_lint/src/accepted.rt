@@ -1,4 +1,4 @@
-//! Suggested expressions. In this file, "systemd 252 accepts" means that the expression is valid here and that no rule
+//! Expressions to suggest. In this file, "systemd 252 accepts" means that the expression is valid here and that no rule
 //! of `Systemd252` rejects it.
 
 ghost use Rattle.std.specs.Prelude.{◌≡◌, IfOk, IfSome, Ok, string_bytes};

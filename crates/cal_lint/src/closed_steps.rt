@@ -23,11 +23,11 @@ const FIELDS: [Field; 6] = [
     Field::Second,
 ];
 
-/// Returns an expression that elapses when `expr` does, and in which each step without an end is a range: `0..59/7` for
-/// `0/7`. It has the layout of the normal form ([`write_expr`]).
+/// Returns an expression that elapses when `expr` does, with a range in place of each step without an end: `0..59/7`
+/// for `0/7`. The result has the layout of the normal form ([`write_expr`]).
 ///
-/// Returns `None` only if the result is longer than an expression may be, but the contract doesn't say that this is the
-/// only reason. Fails only if allocation fails.
+/// Returns `None` only if the result is longer than an expression may be; that this is the only reason isn't proved.
+/// Fails only if allocation fails.
 pub fn closed_form(alloc: Global, expr: &Expr) -> Result<Option<String>, AllocError>
     ensures { IfOk result (λ found. IfSome found (λ text. IsClosedForm expr.now (string_bytes text))) }
 {
@@ -181,7 +181,7 @@ fn push_component(
     Ok(())
 }
 
-/// Appends a part, and writes its start and its end with at least two digits.
+/// Appends a part, with at least two digits for its start and for its end.
 fn push_part(alloc: Global, text: &mut String, part: Part) -> Result<(), AllocError> {
     let start = part.start;
     let number = format!(in alloc; "{start:02}")?;

@@ -62,7 +62,7 @@ pub(crate) fn value_column(line: &str, value: &str, index: usize) -> u32
     }
 }
 
-/// Returns the byte of the value, counted from 0, at which the word at fault begins, or 0 if no word is at fault.
+/// Returns the index of the byte of the value at which the word at fault begins, or 0 if no word is at fault.
 #[tactic(auto, unfolding(crate::specs::rules::Columns::fault_start))]
 pub(crate) fn fault_start(alloc: Global, value: &str) -> Result<usize, AllocError>
     ensures start { IfOk result (λ start. start ≡ fault_start value.now) }
@@ -74,8 +74,8 @@ pub(crate) fn fault_start(alloc: Global, value: &str) -> Result<usize, AllocErro
     }
 }
 
-/// Returns the byte of the value, counted from 0, at which the abbreviation begins if the doubt is about one, and
-/// otherwise 0. The abbreviation is the last word of the value.
+/// Returns the index of the byte of the value at which the abbreviation begins if the doubt is about an abbreviation,
+/// and otherwise 0. The abbreviation is the last word of the value.
 #[tactic(auto, unfolding(crate::specs::rules::Columns::doubt_start))]
 pub(crate) fn doubt_start(doubt: Doubt, value: &str) -> usize
     ensures start { result ≡ doubt_start doubt value.now }
@@ -87,7 +87,7 @@ pub(crate) fn doubt_start(doubt: Doubt, value: &str) -> usize
     }
 }
 
-/// Returns the byte of the text, counted from 0, at which its last word begins. The text must not end with a blank.
+/// Returns the index of the byte of the text at which its last word begins. The text must not end with a blank.
 fn last_word_start(text: &str) -> usize
     ensures start { result ≡ last_word_start text.now }
     ensures within { result ≤ length text.now }
@@ -98,7 +98,7 @@ fn last_word_start(text: &str) -> usize
     }
 }
 
-/// Returns the column, counted from 1, of the byte that is `index` bytes after the byte `start`.
+/// Returns the column of the byte that comes `index` bytes after the byte with the index `start`.
 fn column_at(start: usize, index: usize) -> u32
     requires { start + index + 1 < 2 ^ 32 }
     ensures { result ≡ start + index + 1 }

@@ -9,7 +9,7 @@ ghost use Rattle.cal_lint.specs.rules.Crontab.{are_crontab, five_words, is_cront
 use cal_bytes::{are_digits, first_word};
 use std::alloc::{AllocError, Global};
 
-/// The values that a field of a crontab can have.
+/// The least and the greatest value of a field of a crontab.
 #[derive(Clone, Copy)]
 struct Limits {
     least: u16,
@@ -46,9 +46,10 @@ struct CrontabFields<'t> {
     weekday: &'t str,
 }
 
-/// Converts the five fields of a crontab to a calendar expression, which may be invalid. Returns `None` if `text`
-/// doesn't have five words, or if one of the first four has a character other than digits, `*`, `/`, `,` and `-`.
-/// Otherwise, returns an empty text if no expression is known that stands for the same times.
+/// Converts the five fields of a crontab to a calendar expression. The result may be invalid, since the numbers in the
+/// fields aren't checked. Returns `None` if `text` doesn't have five words, or if one of the first four has a character
+/// other than digits, `*`, `/`, `,` and `-`. Returns an empty text if no expression is known that stands for the same
+/// times as the fields.
 #[tactic(auto, unfolding(crate::specs::rules::Crontab::is_crontab))]
 pub(crate) fn from_crontab(alloc: Global, text: &str) -> Result<Option<String>, AllocError>
     ensures { IfOk result (λ expr. is_some expr ≡ is_crontab text.now) }
@@ -109,7 +110,7 @@ fn are_crontab(fields: CrontabFields<'_>) -> bool
         && is_field(fields.month)
 }
 
-/// Appends the expression that stands for the same times as the fields. Returns `false` if it isn't known.
+/// Appends the expression that stands for the same times as the fields. Returns `false` if no such expression is known.
 fn push_expr(expr: &mut String, fields: CrontabFields<'_>) -> Result<bool, AllocError> {
     // If neither the day of the month nor the weekday begins with `*`, cron runs on each day that matches at least one
     // of the two, which no single expression can say. Pairs such as `*/2` and `1`, for which cron runs on each day that
@@ -137,8 +138,8 @@ fn is_field_byte(byte: u8) -> bool
     byte.is_ascii_digit() || byte == b'*' || byte == b'/' || byte == b',' || byte == b'-'
 }
 
-/// Appends `lead` and a field of a crontab as a component of an expression. Returns `false` if it isn't known what the
-/// field stands for.
+/// Appends `lead` and a field of a crontab as a component of an expression. Returns `false` if no component is known
+/// that matches the same numbers as the field.
 fn push_field(
     expr: &mut String,
     lead: &str,
@@ -160,7 +161,8 @@ fn push_field(
 }
 
 /// Appends an item of a field as a part of a component. Returns `false` if the step after a `*` isn't from 1 to 9999,
-/// or if a single number has a step: crontab(5) has steps only after `*` and ranges. Anything else isn't checked here.
+/// or if a single number has a step, since crontab(5) has steps only after `*` and ranges. Nothing else is checked
+/// here.
 fn push_item(expr: &mut String, limits: Limits, item: &str) -> Result<bool, AllocError> {
     let (values, step) = match item.split_once('/') {
         Some((values, step)) => (values, Some(step)),
@@ -221,7 +223,7 @@ fn push_step(expr: &mut String, step: Option<&str>) -> Result<(), AllocError> {
 }
 
 /// Appends the weekday field of a crontab and a space, or nothing if the field stands for the whole week. Returns
-/// `false` if it isn't known what the field stands for.
+/// `false` if no list of weekdays is known that stands for the same days as the field.
 fn push_weekdays(expr: &mut String, field: &str) -> Result<bool, AllocError> {
     if matches!(field, "*" | "0-6" | "1-7" | "0-7") {
         return Ok(true);

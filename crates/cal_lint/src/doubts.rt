@@ -29,7 +29,7 @@ pub enum Doubt {
     MonthDay,
     /// The name of the zone looks like an abbreviation, such as `CET`: see [`looks_like_abbreviation`]. If it is one of
     /// the two abbreviations of the machine's own zone, systemd takes it for winter time or for summer time only, and
-    /// the timer elapses only in one half of the year. Otherwise it stands for the zone file of this name.
+    /// the timer elapses only in one half of the year. Otherwise it is the name of a zone file.
     Abbreviation,
 }
 

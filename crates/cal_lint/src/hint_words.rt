@@ -26,7 +26,7 @@ static SHORTHANDS: [&str; 12] = [
     "annually",
 ];
 
-/// The names of the weekdays: each in full and in lower case, and as systemd shortens it to three letters.
+/// The names of the weekdays: the full name in lower case, and the three letters to which systemd shortens the name.
 static DAYS: [(&str, &str); 7] = [
     ("monday", "Mon"),
     ("tuesday", "Tue"),
@@ -45,7 +45,7 @@ struct Rewritten {
 }
 
 /// Replaces each word of `text` that is a known mistake. Returns a hint with the first of these mistakes and the new
-/// text, or `None` if no word is a known mistake. There is no new text if `am` or `pm` is a word by itself.
+/// text, or `None` if no word is a known mistake. If `am` or `pm` is a word by itself, the hint has no new text.
 pub(crate) fn rewrite_words(alloc: Global, text: &str) -> Result<Option<Hint>, AllocError>
     ensures { IfOk result (λ found. IfSome (option_map (λ hint. hint.mistake) found) (λ mistake. IsTrue (is_of_word mistake))) }
 {
@@ -252,7 +252,7 @@ fn rewrite_name(alloc: Global, word: &str) -> Result<Option<Rewritten>, AllocErr
     }
 }
 
-/// Returns the first shorthand that differs from `word` by one edit, ignoring case: a letter of `word` is wrong,
+/// Returns the first shorthand that differs from `word` by one edit, ignoring case: in `word`, a letter is wrong,
 /// missing or additional, or two adjacent letters are swapped.
 fn find_near(alloc: Global, word: &str) -> Result<Option<&'static str>, AllocError> {
     let mut lower = String::from_str(alloc, word)?;

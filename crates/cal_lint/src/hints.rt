@@ -28,7 +28,7 @@ use std::alloc::{AllocError, Global};
 pub enum Mistake {
     /// An assignment, such as `OnCalendar=daily`, in place of its value.
     Assignment,
-    /// An expression with a comment after it. Comments have lines of their own (systemd.syntax(7)).
+    /// An expression with a comment after it. A comment has to be on a line of its own (systemd.syntax(7)).
     Comment,
     /// `now`, which is a timestamp (systemd.time(7), Parsing Timestamps).
     Now,
@@ -92,9 +92,9 @@ pub(crate) fn is_valid_expression(alloc: Global, text: &str) -> Result<bool, All
     }
 }
 
-/// Returns `text` if systemd 252 accepts it, or else its normal form if systemd 252 accepts this. Returns `None` for
-/// anything else, and if the last word is the name of a zone that may be a mistake: `9 Uhr` is rewritten to
-/// `09:00 Uhr`, but there is no zone `Uhr`.
+/// Returns `text` if systemd 252 accepts it, or else its normal form if systemd 252 accepts the normal form. Otherwise,
+/// returns `None`. Also returns `None` if the last word is parsed as a zone but hardly names one: `9 Uhr` is rewritten
+/// to `09:00 Uhr`, but there is no zone `Uhr`.
 fn keep_accepted(alloc: Global, text: Option<String>) -> Result<Option<String>, AllocError>
     ensures { IfOk result (λ kept. IfSome kept (λ text. IsNotRejected (string_bytes text))) }
 {
@@ -132,8 +132,8 @@ fn hint_for(alloc: Global, text: &str) -> Result<Option<Hint>, AllocError>
     }
 }
 
-/// Returns the mistake that concerns the whole text, and not one of its words, or `None` if there is no such mistake.
-/// If there are several, returns the first in the order of [`Mistake`].
+/// Returns the mistake in the text as a whole, or `None` if there is none. Mistakes in single words aren't considered.
+/// If there are several mistakes, returns the first in the order of [`Mistake`].
 #[tactic(auto, unfolding(crate::specs::rules::Hints::mistake_in))]
 fn mistake_in(text: &str) -> Option<Mistake>
     ensures { result ≡ mistake_in text.now }
@@ -169,9 +169,9 @@ fn hint_with(alloc: Global, mistake: Mistake, text: &str) -> Result<Option<Hint>
     Ok(Some(Hint { mistake, instead }))
 }
 
-/// If `text` is the fields of a crontab, returns the expression for them. Otherwise, returns `text` without surrounding
-/// blanks and with its mistakes in single words corrected. Returns `None` if `text` is `None`, or if the corrected text
-/// isn't known.
+/// If `text` has the form of the fields of a crontab, returns the expression for them. Otherwise, returns `text`
+/// without surrounding blanks and with its mistakes in single words corrected. Returns `None` if `text` is `None`, or
+/// if the corrected text isn't known.
 fn rewritten(alloc: Global, text: Option<&str>) -> Result<Option<String>, AllocError> {
     let Some(text) = text else {
         return Ok(None);

@@ -13,9 +13,9 @@ use cal_settings::is_unit_name;
 /// The keys whose values are names of units.
 const KEYS_WITH_NAMES: [&[u8]; 4] = [b"WantedBy", b"RequiredBy", b"Alias", b"Also"];
 
-/// Returns whether the assignment, which is in a section `Install`, has a name for which `systemctl enable` fails: one
-/// that isn't a unit name, or an alias that isn't the name of a timer. A value with quotes or specifiers isn't checked,
-/// since systemd changes it first.
+/// Returns whether the assignment in a section `Install` has a name for which `systemctl enable` fails: one that isn't
+/// a unit name, or an alias that isn't the name of a timer. A value with quotes or specifiers isn't checked, since
+/// systemd changes it first.
 pub(crate) fn has_bad_name(assignment: Assignment<'_>) -> bool
     ensures { result ≡ has_bad_name (shown_assignment assignment.entry) }
 {

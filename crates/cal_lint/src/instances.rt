@@ -44,7 +44,8 @@ pub(crate) fn fits_no_instance(alloc: Global, value: &str) -> Result<bool, Alloc
     }
 }
 
-/// Returns what stands before and after the instance, or `None` unless the instance is the value's only specifier.
+/// Returns the texts before and after the instance, `%i` or `%I`. Returns `None` unless the instance is the value's
+/// only specifier.
 fn around_instance(value: &str) -> Option<(&str, &str)>
     ensures { option_map (λ parts. (parts.0.now, parts.1.now)) result ≡ around_instance value.now }
 {
@@ -56,14 +57,14 @@ fn around_instance(value: &str) -> Option<(&str, &str)>
     Some((before, after))
 }
 
-/// Returns what stands before and after the first `%`, or `None` if there is none.
+/// Returns the texts before and after the first `%`, or `None` if there is no `%`.
 fn around_percent(value: &str) -> Option<(&str, &str)>
     ensures { option_map (λ parts. (parts.0.now, parts.1.now)) result ≡ around_percent value.now }
 {
     value.split_once('%')
 }
 
-/// Returns the text after its first letter if this is `i` or `I`.
+/// Returns the text after a leading `i` or `I`, or `None` if `text` begins with neither.
 fn after_letter(text: &str) -> Option<&str>
     ensures { option_map (λ after. after.now) result ≡ after_letter text.now }
 {
@@ -73,7 +74,7 @@ fn after_letter(text: &str) -> Option<&str>
     }
 }
 
-/// Returns whether at least one of the instances, between these two texts, makes a valid expression.
+/// Returns whether at least one of the instances, between `before` and `after`, makes a valid expression.
 fn fits_any(
     alloc: Global,
     before: &str,

@@ -1,5 +1,5 @@
-//! Advice on timer units: besides the errors in them, what systemd 252 rejects, computes wrongly or ignores, what to
-//! write instead of common mistakes, and which valid expressions may not mean what their author thinks.
+//! Advice on timer units: the errors in them, what systemd 252 rejects, computes wrongly or ignores, what to write
+//! instead of common mistakes, and which valid expressions may not mean what their author thinks.
 #![tactic(auto)]
 
 mod accepted;

@@ -128,8 +128,8 @@ fn word_is_rejected_for(rejection: Rejection, word: &str) -> bool
     }
 }
 
-/// Splits `text` at the separators, and returns whether one of the pieces makes systemd 252 reject the expression for
-/// this reason.
+/// Returns whether one of the pieces between the separators of `text` makes systemd 252 reject the expression for this
+/// reason.
 fn any_piece(rejection: Rejection, separator: u8, text: &[u8]) -> bool
     ensures { result ≡ list_any (piece_is_rejected_for rejection)
         (slice_split (λ byte. byte == separator) text.now) }
@@ -288,7 +288,7 @@ fn has_large_step(part: &[u8]) -> bool
     are_digits(step) && decimal_value(step) > MAX_SECOND_STEP
 }
 
-/// Returns the text after the first `/`, up to the next `/` or the end. Returns an empty text if there is no `/`.
+/// Returns the text between the first `/` and the next `/` or the end, or an empty text if there is no `/`.
 fn step_in(part: &[u8]) -> &[u8]
     ensures { result.now ≡ step_in (slice_split is_slash part.now) }
 {

@@ -44,8 +44,7 @@ impl OpenStepFlaw {
     ];
 }
 
-/// Returns what systemd 252 computes wrongly in the expression `text` because of a step without an end, as
-/// [`open_step_flaw`] does for a parsed expression.
+/// Returns what [`open_step_flaw`] returns for the expression `text`.
 ///
 /// Fails with the error of [`read_expr`] if `text` is not a valid expression. Fails with [`SpecFault::NoMemory`] only
 /// if allocation fails.
@@ -58,8 +57,9 @@ pub fn find_open_step_flaw(alloc: Global, text: &str) -> Result<Option<OpenStepF
 }
 
 /// Returns what systemd 252 computes wrongly because of a step without an end (systemd.time(7), Calendar Events), or
-/// `None` if there is nothing. If there are several flaws, returns the first in this order: lost elapses of the day,
-/// the hour, the minute and the second, failures because of the month, the day and the hour, and failures at midnight.
+/// `None` if it computes everything correctly. If there are several flaws, returns the first in this order: lost
+/// elapses because of the day, the hour, the minute and the second, failures because of the month, the day and the
+/// hour, and failures at midnight.
 ///
 /// Some expressions with a flaw are computed correctly all the same: if their weekdays or dates are never consecutive,
 /// or if the clock of their zone doesn't change at the hours in question.
@@ -123,8 +123,8 @@ pub(crate) fn count_of(field: Field) -> u16
     last_number(field) + 1 - first_number(field)
 }
 
-/// Returns the value that a field's component has to match for a number of the field. This is the number itself, or, if
-/// days are counted from the month's end, the count of this day in a month of 31 days.
+/// Returns the value that stands for `number`, a number of the field, in the field's component: `number` itself or, if
+/// days are counted from the month's end, the count of this day in a month of 31 days, in which day 31 has the count 1.
 fn component_value(from_end: bool, field: Field, number: u16) -> u16
     ensures { result ≡ component_value from_end field number }
 {
@@ -140,7 +140,7 @@ fn is_member(expr: &Expr, field: Field, number: u16) -> bool
     expr.has_member(field, component_value(expr.from_end(), field, number))
 }
 
-/// Returns the least number of a field that its component matches.
+/// Returns the least number of the field that the expression matches.
 fn first_member(expr: &Expr, field: Field) -> Option<u16>
     ensures { result ≡ find (is_member expr.now field) (numbers_of field) }
 {
@@ -150,9 +150,9 @@ fn first_member(expr: &Expr, field: Field) -> Option<u16>
 
 // ## The number at which the search goes on
 
-/// Returns the number of the field at which steps without an end make the search go on in the next larger unit: 3 if it
-/// goes on at minute 63, which is minute 3 of the next hour. Returns `None` if no step does so; then the search goes on
-/// at the first number, as it should.
+/// Returns the number of the field at which the search goes on in the next larger unit because of steps without an end.
+/// This is 3 for the minutes if a step goes on to minute 63, which is minute 3 of the next hour. Returns `None` if no
+/// step does so; then the search goes on at the first number, as it should.
 fn resumes_at(expr: &Expr, field: Field) -> Option<u16>
     ensures { result ≡ resumes_at expr.now field }
 {
@@ -171,8 +171,8 @@ fn first_reached(expr: &Expr, field: Field) -> Option<u16>
     (first..first + count_of(field)).find(|number| any_reaches(expr, field, *number))
 }
 
-/// Returns whether the search stops at the field's last number. It never does in the seconds, since systemd continues
-/// it a microsecond after each elapse.
+/// Returns whether the search stops at the field's last number. In the seconds it never does, since systemd continues
+/// the search a microsecond after each elapse.
 fn stops_in_time(expr: &Expr, field: Field) -> bool
     ensures { result ≡ stops_in_time expr.now field }
 {

@@ -119,7 +119,7 @@ struct UnitLine<'l> {
     number: u32,
     /// The text of the line, without blanks at its start and its end.
     text: &'l str,
-    /// The line of the file with which the logical line begins. Columns are counted in it.
+    /// The first physical line of the logical line. Columns are counted in it.
     physical: &'l str,
 }
 
@@ -138,7 +138,7 @@ struct UnitLine<'l> {
 ///
 /// Monotonic timers, `Unit=` and names in `Install` with a `%` aren't checked, since systemd fills in specifiers first
 /// (systemd.unit(5), Specifiers). Expressions and exceptions with a `%` are checked only if the instance is their only
-/// specifier: it is a problem if no usual instance makes them valid. Values in `Unit` aren't checked at all, nor
+/// specifier: then it is a problem if no usual instance makes them valid. Not checked at all are values in `Unit`, and
 /// whether lines are UTF-8 or too long for systemd.
 ///
 /// [`crate::systemd_252`] finds no reason to reject a suggestion. Fails only if allocation fails.
@@ -232,7 +232,7 @@ fn header_problem(text: &str) -> Option<Problem>
     }
 }
 
-/// Appends the problems of a line in a section that systemd knows. The line isn't a header.
+/// Appends the problems of a line that isn't a header, in a section that systemd knows.
 fn add_assigned(
     alloc: Global,
     found: &mut Vec<Finding>,

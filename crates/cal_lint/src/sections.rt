@@ -28,11 +28,11 @@ pub(crate) enum OpenSection {
     /// The line comes before the first section header.
     Outside,
     Known(Section),
-    /// The line is in any other section, so systemd ignores it.
+    /// The line is in a section that systemd doesn't read in a timer, so systemd ignores the line.
     Ignored,
 }
 
-/// Returns the section that is open after a line. `before` is the section that is open before it. The line has no
+/// Returns the section that is open after `line`. `before` is the section that is open before it. `line` must have no
 /// blanks at its start or its end.
 pub(crate) fn section_after(before: OpenSection, line: &str) -> OpenSection
     ensures { result ≡ section_after before line.now }
@@ -67,8 +67,8 @@ fn is_bad_in_header(byte: u8) -> bool
     byte.is_ascii_control() || matches!(byte, b'"' | b'\'' | b'\\')
 }
 
-/// Returns whether systemd warns about a section with this name, and ignores the lines in it. systemd ignores sections
-/// whose names begin with `X-` without a warning.
+/// Returns whether systemd warns about a section with this name and ignores the lines in it. Sections whose names begin
+/// with `X-` are ignored without a warning.
 pub(crate) fn is_unknown_section(name: &[u8]) -> bool
     ensures { result ≡ is_unknown_section name.now }
 {

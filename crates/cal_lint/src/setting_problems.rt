@@ -51,8 +51,8 @@ pub(crate) fn add_setting_problems(
     }
 }
 
-/// Appends the problem of an expression or exception with specifiers if no usual instance makes it valid, or of another
-/// setting if systemd ignores it because of its value.
+/// If the setting is an expression or exception with specifiers, appends a problem if no usual instance makes it valid.
+/// For any other setting, appends a problem if systemd ignores it because of its value.
 fn add_unchecked(
     alloc: Global,
     found: &mut Vec<Finding>,
@@ -137,8 +137,9 @@ fn add_invalid(
     Ok(())
 }
 
-/// If the value of `assignment` is a valid expression, appends why systemd 252 rejects it, what systemd 252 computes
-/// wrongly, and the doubt about its meaning, each only if there is one. For an exception, appends only the doubt.
+/// If the value of `assignment` is a valid expression, appends a problem if systemd 252 rejects the expression, another
+/// if systemd 252 computes it wrongly, and another if its meaning is doubtful. For an exception, only its meaning is
+/// considered.
 fn add_advice(
     alloc: Global,
     found: &mut Vec<Finding>,
@@ -155,8 +156,8 @@ fn add_advice(
     add_concerns(alloc, found, assignment, line)
 }
 
-/// If the value of `assignment` is a valid expression, appends what systemd 252 computes wrongly, and the doubt about
-/// its meaning, each only if there is one. For an exception, appends only the doubt.
+/// If the value of `assignment` is a valid expression, appends a problem if systemd 252 computes the expression
+/// wrongly, and another if its meaning is doubtful. For an exception, only its meaning is considered.
 fn add_concerns(
     alloc: Global,
     found: &mut Vec<Finding>,
@@ -174,8 +175,8 @@ fn add_concerns(
     push_doubt(found, assignment, line, doubt)
 }
 
-/// Returns what systemd 252 computes wrongly in a valid expression, except for failures when the clock is set forward
-/// at midnight, which `cal_tasks` reports for the zones that do so. Returns `None` if the value is not a valid
+/// Returns what systemd 252 computes wrongly in a valid expression. Failures when the clock is set forward at midnight
+/// are left out; `cal_tasks` reports them, since they depend on the zone. Returns `None` if the value is not a valid
 /// expression, and for an exception: systemd doesn't read exceptions.
 fn flaw_by_systemd(
     alloc: Global,
@@ -201,8 +202,8 @@ fn flaw_of(alloc: Global, value: &str) -> Result<Option<OpenStepFlaw>, AllocErro
     }
 }
 
-/// Returns the flaw to report whatever the zone. Returns `None` for [`OpenStepFlaw::FailsAtMidnightChanges`], which
-/// matters only where the clock is set forward at midnight; `cal_tasks` reports it for those zones.
+/// Returns the flaw if it is reported for every zone. Returns `None` for [`OpenStepFlaw::FailsAtMidnightChanges`],
+/// which `cal_tasks` reports only for zones whose clock is set forward at midnight.
 pub fn reported_flaw(flaw: Option<OpenStepFlaw>) -> Option<OpenStepFlaw>
     ensures { result ≡ reported_flaw flaw }
 {
@@ -232,8 +233,8 @@ fn rejection_by_systemd(
     }
 }
 
-/// Appends the reason in `rejected`, if there is one. Suggests the normal form of the expression if systemd 252 accepts
-/// this form.
+/// Appends the problem that systemd 252 rejects the expression, if `rejected` has a reason. Suggests the normal form of
+/// the expression if systemd 252 accepts this form.
 fn push_rejection(
     alloc: Global,
     found: &mut Vec<Finding>,
@@ -255,7 +256,8 @@ fn push_rejection(
     Ok(())
 }
 
-/// Appends what systemd 252 computes wrongly, if there is anything. Suggests ranges in place of steps without an end.
+/// Appends the problem that systemd 252 computes the expression wrongly, if there is a flaw. Suggests ranges in place
+/// of steps without an end.
 fn push_flaw(
     alloc: Global,
     found: &mut Vec<Finding>,
@@ -292,7 +294,7 @@ fn closed_suggestion(alloc: Global, value: &str) -> Result<Option<String>, Alloc
     }
 }
 
-/// Appends the doubt about a valid expression, if there is one.
+/// Appends the problem that the meaning of a valid expression is doubtful, if there is a doubt.
 fn push_doubt(
     found: &mut Vec<Finding>,
     assignment: Assignment<'_>,
@@ -336,8 +338,8 @@ fn doubt_of(alloc: Global, value: &str) -> Result<Option<Doubt>, AllocError>
     }
 }
 
-/// Returns the known mistake that an invalid expression resembles, and a valid expression to write instead, each only
-/// if there is one. Returns neither if `fault` is not [`TimerFault::BadLine`].
+/// Returns the known mistake that an invalid expression resembles, and a valid expression to write instead, if these
+/// are known. Returns neither if `fault` is not [`TimerFault::BadLine`].
 fn advice_for(
     alloc: Global,
     fault: TimerFault,

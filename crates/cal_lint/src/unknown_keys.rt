@@ -142,8 +142,8 @@ const EXPRESSION_KEYS: [&[u8]; 2] = [b"OnCalendar", b"X-ExceptOnCalendar"];
 
 /// Returns whether neither systemd 252 nor this project knows the key in this section.
 ///
-/// systemd ignores keys that begin with `X-` (systemd.unit(5)). So they don't count as unknown, unless they stand in
-/// the section `Timer` and look like a misspelled `X-ExceptOnCalendar`: they begin with `X-Except` or end with
+/// systemd ignores keys that begin with `X-` (systemd.unit(5)), so they don't count as unknown, unless they are in the
+/// section `Timer` and look like a misspelled `X-ExceptOnCalendar`: they begin with `X-Except` or end with
 /// `OnCalendar`, ignoring case.
 pub(crate) fn is_unknown_key(section: Section, key: &str) -> bool
     ensures { result ≡ is_unknown_key section key.now }

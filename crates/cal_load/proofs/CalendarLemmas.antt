@@ -61,7 +61,8 @@ ignored_by a true false e f apart = rw e (one_line (ignored_line a (expr_in a.va
 ignored_by a false true e f apart = rw (e, f) (one_line (ignored_line a (expr_in a.value)))
 ignored_by a false false e f apart = rw (e, f) refl
 
--- after one more assignment, its line is ignored, too, if it is an invalid expression or exception
+-- the lines that are ignored after one more assignment are the earlier ones and, if the assignment is an invalid
+-- expression or exception, its line
 ignored_with : (before : List Assignment) (a : Assignment)
     → ignored_in expr_in (before ++ a ∷ []) ≡ (ignored_in expr_in before ++ ignored_more (is_expression a) a) ++ ignored_more (is_exception a) a
 unfolding ignored_in
@@ -71,8 +72,8 @@ ignored_with before a =
     ∙ ap (λ last. ignored_in expr_in before ++ last) (ignored_by a _ _ refl refl (expression_is_no_exception a))
     ∙ sym (append_assoc (ignored_in expr_in before) (ignored_more (is_expression a) a) (ignored_more (is_exception a) a))
 
--- `AreReadFrom` still holds after one more assignment; `adds` and `clears` say what it does to the expressions,
--- `excepts` and `resets` what it does to the exceptions
+-- `AreReadFrom` still holds after one more assignment; `adds` and `clears` say what the assignment does to the
+-- expressions, `excepts` and `resets` what it does to the exceptions
 pub read_more : (before : List Assignment) (a : Assignment) (old new : CalendarLines) (middle : List IgnoredLine) (adds clears excepts resets : Bool)
     → adds ≡ is_expression a → clears ≡ is_reset a → excepts ≡ is_exception a → resets ≡ is_exception_reset a
     → map shown new.calendar.lines.items ≡ entries_after adds clears (map shown old.calendar.lines.items) a
@@ -99,14 +100,14 @@ read_more before a old new middle adds clears excepts resets is_adds is_clears i
       ∙ sym (ignored_with before a),
 )
 
--- an empty calendar without ignored lines is what is read before the first assignment
+-- if nothing has been read, `AreReadFrom` holds for an empty list of assignments
 pub read_nothing : (read : CalendarLines) → map shown read.calendar.lines.items ≡ [] → map shown read.calendar.exceptions.items ≡ []
     → read.ignored.items ≡ [] → AreReadFrom [] read
 unfolding listed excepted ignored_in
 read_nothing read lines exceptions ignored = ((lines, exceptions), ignored)
 
--- if `old` was read from the first `i` assignments, and `new` from the next one, too, then `new` was read from the
--- first `i + 1`
+-- if `old` was read from the first `i` assignments, and reading the next assignment made it `new`, then `new` was read
+-- from the first `i + 1` assignments
 pub assignment_read : (assignments : List OwnedAssignment) (i : ℕ) (a : OwnedAssignment) (old new : CalendarLines) → i < length assignments
     → a ≡ get_or assignments i a → AreReadFrom (map shown_owned_assignment (take i assignments)) old
     → ((before : List Assignment) → AreReadFrom before old → AreReadFrom (before ++ shown_owned_assignment a ∷ []) new)

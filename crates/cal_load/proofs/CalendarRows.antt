@@ -22,7 +22,8 @@ entry number text = record { number = number; text = text; expr = text }
 abbrev bad : ℕ → IgnoredLine
 bad number = record { number = number; fault = NoRepeat }
 
--- the list of expressions is cleared after line 3, and the list of exceptions isn't; systemd ignores line 8
+-- the empty `OnBootSec=` in line 5 clears the expressions, but not the exceptions; systemd ignores line 8, whose key is
+-- misspelled
 abbrev settings : List Assignment
 settings =
     setting 2 (codes "OnCalendar") (codes "25:00:00") ∷ setting 3 (codes "OnCalendar") (codes "daily")

@@ -51,7 +51,7 @@ none_invalid (entry ∷ entries) h =
     let valid : expr_in entry.text ≡ Ok entry.expr = All-head (λ entry. expr_in entry.text ≡ Ok entry.expr) entry entries h in
     rw valid (none_invalid entries (All-tail (λ entry. expr_in entry.text ≡ Ok entry.expr) entry entries h))
 
--- if the expressions before an invalid one are valid, it is the first that is invalid
+-- if an expression is invalid, and all expressions before it are valid, it is the first invalid one
 pub invalid_first : (texts : List (Bor (List ℕ))) (i : ℕ) (d : Bor (List ℕ)) (entries : List (TimerLine Fields)) (fault : SpecFault) → i < length texts
     → AreOf (map (λ text. text.now) (take i texts)) entries → expr_in (get_or texts i d).now ≡ Err fault
     → first_invalid (map (λ text. text.now) texts) ≡ Some (get_or texts i d).now
@@ -100,7 +100,7 @@ text_shown : (found : Option (Bor declared_line.TimerLine))
 text_shown None = refl
 text_shown (Some line) = refl
 
--- if a line was found as the first that names a zone, its text is the one that `first_with_zone` returns
+-- if `found` is the first line that names a zone, its text is the one that `first_with_zone` returns for this zone
 pub text_found : (zone text : List ℕ) (lines : List declared_line.TimerLine) (found : Option (Bor declared_line.TimerLine))
     → option_copied found ≡ find (λ line. names_zone zone (shown line)) lines → first_with_zone zone (map shown lines) ≡ Some text
     → option_map (λ line. string_bytes line.now.text) found ≡ Some text
@@ -116,7 +116,7 @@ found_more : (b c : Bool) (entry : TimerLine Fields) (found : Option (TimerLine 
 found_more true c entry found h f = (entry.text, refl)
 found_more false c entry found h f = f h
 
--- if entries name a zone, one of them is the first that does
+-- if at least one of the entries names a zone, `first_with_zone` returns the text of the first that does
 pub zone_found : (zone : List ℕ) (entries : List (TimerLine Fields)) → list_any (bytes_eq zone) (zone_names_in entries) ≡ true
     → (text : List ℕ) × (first_with_zone zone entries ≡ Some text)
 zone_found zone [] h = absurd (cc)

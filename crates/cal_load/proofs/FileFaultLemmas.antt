@@ -1,4 +1,5 @@
--- Lemmas on the errors about files that targets stand for.
+-- Lemmas on the errors about the files that targets stand for. An error is added for everything that is lost, that is,
+-- can't be read.
 use Rattle.std.proofs.Common.{◌≡◌, ◌∙◌, ◌++◌, ◌∷◌, ◌⊎◌, ℕ, Contains, List, None, Option, Some, String, [], ap, arith, false, inl, inr, map, string_bytes, subst, sym, true}
 use Rattle.std.proofs.lemmas.Bool.{false≢true}
 use Rattle.std.proofs.lemmas.List.{map-append}
@@ -40,7 +41,7 @@ lost_known lost faults h = record {
   whole = All-cons (IsLostIn faults) lost [] h (All-nil (IsLostIn faults));
 }
 
--- after an error that says that something is lost was appended, the errors say so
+-- if an error that says that something is lost is appended to the errors, `AreLostAlso` holds for what is lost
 pub lost_pushed : (lost : Lost) (fault : TargetFault) (old new : List TargetFault) → new ≡ old ++ fault ∷ [] → IsFaultOf lost fault
     → AreLostAlso (lost ∷ []) old new
 lost_pushed lost fault old new e is = record {
@@ -72,7 +73,8 @@ same_path_for known fault place path reason why name (UnusableAt at given) e sam
     let is_why : why ≡ given = cc in
     ((place, same ∙ ap string_bytes is_path ∙ is.1, e ∙ ap (Path place) (because ∙ is_why)), tt)
 
--- an error with the path and the reason of another error says that the same thing is lost
+-- if `fault` says that something is lost because of a path, then `known`, an error with the same path and reason, says
+-- so, too
 pub same_path : (known fault : TargetFault) (place path : String Global) (reason why : Reason) (lost : Lost) → known.reason ≡ Path place reason → fault.reason ≡ Path path why
     → string_bytes place ≡ string_bytes path → reason ≡ why → IsFaultOf lost fault
     → IsCause lost.cause known.reason × IsAbout lost.name lost.cause known
@@ -88,7 +90,7 @@ lost_none faults = record {
   whole = All-nil (IsLostIn faults);
 }
 
--- adding the errors of `first`, and then those of `second`, adds those of both
+-- if errors were added for what is in `first`, and then for what is in `second`, they were added for both
 pub lost_both : (first second : List Lost) (old mid new : List TargetFault) → AreLostAlso first old mid → AreLostAlso second mid new
     → AreLostAlso (first ++ second) old new
 lost_both first second old mid new h k = record {
@@ -105,7 +107,8 @@ lost_both first second old mid new h k = record {
       (All-weaker (IsLostIn mid) (IsLostIn new) (λ lost. lost_kept mid new lost k.kept) first h.whole) k.whole;
 }
 
--- if the errors about the paths in `before` were added, and then that of one more path, all their errors were added
+-- if the errors about the paths in `before` were added, and then the error about one more path, the errors about all
+-- these paths were added
 pub lost_more : (before : List UnitFault) (more : UnitFault) (old mid new : List TargetFault)
     → AreLostAlso (map lost_path (map shown_fault before)) old mid → AreLostAlso (lost_path (shown_fault more) ∷ []) mid new
     → AreLostAlso (map lost_path (map shown_fault (before ++ more ∷ []))) old new
@@ -118,7 +121,7 @@ none_before : (lost : List Lost) (fault : TargetFault) → Contains {X = TargetF
 none_before lost fault (inl before) = let lt = before.1 in absurd (omega arith)
 none_before lost fault (inr one) = one
 
--- if there were no errors before, all errors are of what is lost
+-- if there were no errors before, the errors that were added for `lost` are all errors (`AreFaultsOf`)
 pub all_faults : (lost : List Lost) (old new : List TargetFault) → old ≡ [] → AreLostAlso lost old new → AreFaultsOf lost new
 all_faults lost old new e h = record {
   true_of = All-weaker (Contains new) (IsFaultOfOne lost)
@@ -129,20 +132,21 @@ all_faults lost old new e h = record {
 
 -- ## Causes
 
--- a listed unit that isn't lost has no error
+-- a unit of the search path that isn't lost needs no error
 pub none_listed : (name : List ℕ) (cause : Option Cause) (faults : List TargetFault) → IsCauseIf cause None
     → AreLostAlso (lost_as name (unless_absent cause)) faults faults
 none_listed name None faults h = lost_none faults
 none_listed name (Some cause) faults h = absurd h
 
--- if the reason why a unit is lost was reported, its error was added
+-- if a unit is lost, `reason` states the cause, and an error was added for whatever cause `reason` states, then the
+-- unit's error was added
 pub one_named : (name : List ℕ) (cause : Option Cause) (reason : TargetReason) (old new : List TargetFault)
     → ((cause : Cause) → IsCause cause reason → AreLostAlso (lost_as name (Some cause)) old new)
     → IsCauseIf cause (Some reason) → AreLostAlso (lost_as name cause) old new
 one_named name None reason old new f h = absurd h
 one_named name (Some cause) reason old new f h = f cause h
 
--- a listed unit that has no file isn't reported
+-- a unit of the search path that has no file needs no error
 pub absent_listed : (name : List ℕ) (cause : Option Cause) (reason : TargetReason) (faults : List TargetFault) → is_absent_reason reason ≡ true
     → IsCauseIf cause (Some reason) → AreLostAlso (lost_as name (unless_absent cause)) faults faults
 absent_listed name None reason faults is h = absurd h
@@ -151,7 +155,7 @@ absent_listed name (Some IsTemplate) reason faults is h = absurd (false≢true (
 absent_listed name (Some ManyAliases) reason faults is h = absurd (false≢true (sym (ap is_absent_reason h) ∙ is))
 absent_listed name (Some (UnusableAt path why)) reason faults is h = absurd (false≢true (sym (ap is_absent_reason h.2) ∙ is))
 
--- a listed unit that is lost is reported, unless it has no file
+-- if a unit of the search path is lost, and not because it has no file, its error was added
 pub one_listed : (name : List ℕ) (cause : Option Cause) (fault : TargetFault) (old new : List TargetFault) → is_absent_reason fault.reason ≡ false
     → string_bytes fault.target ≡ name → ((lost : Lost) → IsFaultOf lost fault → AreLostAlso (lost ∷ []) old new)
     → IsCauseIf cause (Some fault.reason) → AreLostAlso (lost_as name (unless_absent cause)) old new

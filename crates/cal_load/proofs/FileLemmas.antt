@@ -1,4 +1,5 @@
--- Lemmas on the files that targets stand for: which paths were tried, what was read there, and what is lost.
+-- Lemmas on the files that targets stand for: which paths were tried, what was read there, and what is lost, that is,
+-- can't be read.
 use Rattle.std.proofs.Common.{◌≡◌, ◌⊎◌, ◌∙◌, ◌+◌, ◌<◌, ◌&&◌, ℕ, All, Bool, Bor, List, [], ◌∷◌, ◌++◌, None, Option, Some, Ok, Err, Result, String, true, false, append-nil, append_assoc, arith, cond, filter, if◌then◌else◌, ap, get_or, inl, inr, length, map, not, refl, string_bytes, subst, sym, take}
 use Rattle.std.proofs.lemmas.Bool.{cases_Bool, false≢true}
 use Rattle.std.proofs.lemmas.List.{flat_map_more, map-append, take_more}
@@ -54,8 +55,8 @@ has_as_before : (paths : List (List ℕ)) (path other : List ℕ) → bytes_eq o
     → list_any (bytes_eq other) paths ≡ list_any (bytes_eq other) (paths ++ path ∷ [])
 has_as_before paths path other e = sym (list_any-append (bytes_eq other) paths (path ∷ []) ∙ rw e (grind arith))
 
--- if a map has what is at each of `paths`, it has what is at each of `paths` and at `path` after what was found at
--- `path` is inserted
+-- Suppose that a map has an entry for each of `paths`, which says what is at this path. After what was found at one
+-- more path is inserted, the map has such entries for `paths` and for this path.
 seen_more : (machine : Machine) (paths : List (List ℕ)) (path : List ℕ) (found : FileRead) (old new : BTreeMap (String Global) Taken)
     → found ≡ file_at machine path → get_by_text new path ≡ Some (taken_of found)
     → ((other : List ℕ) → ((other ≡ path) × (get_by_text new other ≡ Some (taken_of found))) ⊎ (get_by_text new other ≡ get_by_text old other))
@@ -73,7 +74,7 @@ seen_more machine paths path found old new is at changed h other =
       ]
     ]
 
--- after one more path was tried, the paths are the earlier ones and this one
+-- if `paths` were tried, and then one more path, the tried paths are `paths` and this one
 tried_more : (machine : Machine) (paths : List (List ℕ)) (path : List ℕ) (found : FileRead) (old new : Reading)
     → found ≡ file_at machine path → get_by_text new.seen path ≡ Some (taken_of found)
     → ((other : List ℕ) → ((other ≡ path) × (get_by_text new.seen other ≡ Some (taken_of found))) ⊎ (get_by_text new.seen other ≡ get_by_text old.seen other))
@@ -87,8 +88,9 @@ tried_more machine paths path found old new is at changed pushed h = record {
   seen = seen_more machine paths path found old.seen new.seen is at changed h.seen;
 }
 
--- after one more path was tried, and what was found there was inserted under a string with the bytes of the path, the
--- tried paths are the earlier ones and this one
+-- Suppose that `paths` were tried, and then one more path. If what was found there was inserted into the map `seen`,
+-- under a key with the bytes of this path, and its text, if any, was appended to the loaded files, then the tried paths
+-- are `paths` and this one.
 pub tried_at : (machine : Machine) (paths : List (List ℕ)) (path : List ℕ) (found : FileRead) (old new : Reading) (key : String Global) (taken : Taken)
     → string_bytes key ≡ path → taken ≡ taken_of found
     → Updates (λ x y. slice_cmp nat_cmp (string_bytes x) (string_bytes y)) old.seen new.seen key (Some taken) → found ≡ file_at machine path
@@ -131,11 +133,11 @@ tried_stored machine reading h = stored_files machine reading.loaded.files.items
 
 -- ## Each path once
 
--- the paths that `known` doesn't have
+-- the paths that aren't in `known`
 abbrev new_to : List (List ℕ) → List (List ℕ) → List (List ℕ)
 new_to known paths = filter (λ other. not (list_any (bytes_eq other) known)) paths
 
--- filtering twice is filtering once by both tests
+-- filtering by one test and then by another is filtering once by both
 filter_both : {X : Type 0} (p q r : X → Bool) → ((x : X) → r x ≡ (q x && p x)) → (xs : List X) → filter p (filter q xs) ≡ filter r xs
 filter_both p q r is [] = refl
 filter_both p q r is (x ∷ xs) =
@@ -145,7 +147,7 @@ filter_both p q r is (x ∷ xs) =
       | inr e ↦ rw (is x, e) rest
     ]
 
--- if `path` is known, the paths that aren't known are those that differ from `path` and aren't known
+-- if `path` is in `known`, `other` isn't in `known` if and only if it differs from `path` and isn't in `known`
 new_known : (known : List (List ℕ)) (path : List ℕ) → list_any (bytes_eq path) known ≡ true → (other : List ℕ)
     → not (list_any (bytes_eq other) known) ≡ (not (bytes_eq other path) && not (list_any (bytes_eq other) known))
 new_known known path has other =
@@ -163,7 +165,7 @@ new_added known path other =
       | inr differs ↦ rw differs (grind arith)
     ]
 
--- adding paths one by one appends those that weren't known, each once
+-- adding paths one by one to `known` appends those that aren't in it yet, each once
 added_once : (known paths : List (List ℕ)) → fold with_path known paths ≡ known ++ new_to known (each_once paths)
 added_once known [] = sym (append-nil known)
 added_once known (path ∷ paths) =
@@ -197,7 +199,8 @@ tried_same machine paths old new seen files h = record {
   seen = λ path. ap (λ map. get_by_text map path) seen ∙ h.seen path;
 }
 
--- if nothing was tried and only errors were added, `AreReadAlso` holds for no paths and these errors
+-- if no path was tried, and only errors about `lost` were added, `AreReadAlso` holds for the empty list of paths and
+-- for `lost`
 read_errors : (machine : Machine) (lost : List Lost) (old new : Reading) → new.seen ≡ old.seen → new.loaded.files.items ≡ old.loaded.files.items
     → AreLostAlso lost old.loaded.faults.items new.loaded.faults.items → AreReadAlso machine [] lost old new
 read_errors machine lost old new seen files h paths tried = (tried_same machine paths old new seen files tried, h)
@@ -217,8 +220,8 @@ pub read_as : (machine : Machine) (first second : List (List ℕ)) (lost also : 
 read_as machine first second lost also old new e f h =
     subst (λ paths. AreReadAlso machine paths also old new) e (subst (λ lost. AreReadAlso machine first lost old new) f h)
 
--- if `AreReadAlso` holds for the texts in `before`, and then for the text `more`, it holds for all of them; `f`
--- returns the paths that a text stands for, and `g` what is lost of them
+-- if `AreReadAlso` holds for the texts in `before`, and then for the text `more`, it holds for all of them; for a text,
+-- `f` returns the paths that it stands for, and `g` what can't be read for it
 read_flat : (machine : Machine) (f : List ℕ → List (List ℕ)) (g : List ℕ → List Lost) (before : List (List ℕ)) (more : List ℕ) (old mid new : Reading)
     → AreReadAlso machine (flat_map f before) (flat_map g before) old mid → AreReadAlso machine (f more) (g more) mid new
     → AreReadAlso machine (flat_map f (before ++ more ∷ [])) (flat_map g (before ++ more ∷ [])) old new
@@ -248,8 +251,8 @@ read_drop_in machine g before more old mid new h k =
     all (ap (flat_map g) all)
     (read_path machine g (map string_bytes before) (string_bytes more) old mid new h k)
 
--- if `AreReadAlso` holds for the paths that `f` makes of the strings in `before`, and then for the one that it makes
--- of `more`, it holds for all of them
+-- if `AreReadAlso` holds for the paths that `f` makes of the strings in `before`, and then for `path`, which `f` makes
+-- of the string `more`, it holds for all these paths
 pub read_string : (machine : Machine) (f : List ℕ → List ℕ) (g : List ℕ → List Lost) (before : List (String Global)) (more : String Global) (path : List ℕ) (old mid new : Reading)
     → path ≡ f (string_bytes more)
     → AreReadAlso machine (map f (map string_bytes before)) (flat_map g (map f (map string_bytes before))) old mid → AreReadAlso machine (path ∷ []) (g path) mid new
@@ -264,8 +267,8 @@ read_string machine f g before more path old mid new is h k =
     all (ap (flat_map g) all)
     (read_path machine g (map f (map string_bytes before)) path old mid new h k)
 
--- if `AreReadAlso` holds for the units in `before`, and then for the unit `more`, it holds for all of them; `f`
--- returns the paths of a unit, and `g` what is lost of them
+-- if `AreReadAlso` holds for the units in `before`, and then for the unit `more`, it holds for all of them; for the
+-- name of a unit, `f` returns its paths, and `g` what can't be read for it
 pub read_unit : (machine : Machine) (f : List ℕ → List (List ℕ)) (g : List ℕ → List Lost) (before : List (String Global)) (more : String Global) (name : List ℕ) (old mid new : Reading)
     → name ≡ string_bytes more → AreReadAlso machine (flat_map f (map string_bytes before)) (flat_map g (map string_bytes before)) old mid
     → AreReadAlso machine (f name) (g name) mid new
@@ -278,8 +281,8 @@ read_unit machine f g before more name old mid new is h k =
     (read_flat machine f g (map string_bytes before) (string_bytes more) old mid new h
     (read_as machine (f name) (f (string_bytes more)) (g name) (g (string_bytes more)) mid new (ap f is) (ap g is) k))
 
--- if `AreReadAlso` holds for the first `i` targets, and then for the next one, it holds for the first `i + 1`; `f`
--- returns the paths of a target, and `g` what is lost of them
+-- if `AreReadAlso` holds for the first `i` targets, and then for the next one, it holds for the first `i + 1`; for a
+-- target, `f` returns its paths, and `g` what can't be read for it
 pub read_target : (machine : Machine) (f : List ℕ → List (List ℕ)) (g : List ℕ → List Lost) (targets : List (Bor (List ℕ))) (i : ℕ) (target other : Bor (List ℕ)) (old mid new : Reading)
     → i < length targets → target.now ≡ (get_or targets i other).now
     → AreReadAlso machine (flat_map f (map (λ target. target.now) (take i targets))) (flat_map g (map (λ target. target.now) (take i targets))) old mid
@@ -296,7 +299,8 @@ read_target machine f g targets i target other old mid new within is h k =
     (ap (flat_map f) all) (ap (flat_map g) all)
     (read_flat machine f g before target.now old mid new h k)
 
--- errors about something else that is lost can be added after the paths were tried
+-- if errors about something else that can't be read, `more`, are added after the paths were tried, `AreReadAlso` holds
+-- for the same paths, and for what is in `lost` and `more`
 pub read_besides : (machine : Machine) (tried : List (List ℕ)) (lost more : List Lost) (old mid new : Reading)
     → new.seen ≡ mid.seen → new.loaded.files ≡ mid.loaded.files
     → AreReadAlso machine tried lost old mid → AreLostAlso more mid.loaded.faults.items new.loaded.faults.items
@@ -310,8 +314,8 @@ read_besides machine tried lost more old mid new seen files h k paths before =
       lost_both lost more old.loaded.faults.items mid.loaded.faults.items new.loaded.faults.items read.1 k,
     )
 
--- if no path had been tried before, then all texts that were read are those at these paths, each path once, and all
--- errors are of what is lost
+-- if no path had been tried before, and there were no errors, then the texts that were read are those at `paths`, each
+-- path once, and the errors are those about what is lost
 pub all_read : (machine : Machine) (tried paths : List (List ℕ)) (lost all : List Lost) (old new : Reading) → tried ≡ paths → lost ≡ all
     → AreTried machine [] old → old.loaded.faults.items ≡ [] → AreReadAlso machine tried lost old new
     → AreTextsAt machine paths new.loaded.files.items × AreFaultsOf all new.loaded.faults.items
@@ -331,7 +335,7 @@ text_read Mask = refl
 text_read (Unusable reason) = refl
 text_read (Text bytes) = refl
 
--- why the file at a path is lost, if it is, given what was found there
+-- why the file at a path can't be read, given what was found there; `None` if it can be read
 abbrev cause_taken : List ℕ → Taken → Option Cause
 cause_taken path taken.TheVariants.Read = None
 cause_taken path taken.TheVariants.Masked = None
@@ -342,7 +346,7 @@ cause_same path Mask = refl
 cause_same path (Unusable reason) = refl
 cause_same path (Text bytes) = refl
 
--- what is lost of a drop-in, given what was found there
+-- what can't be read for a drop-in, given what was found at its path
 abbrev drop_in_taken : List ℕ → Taken → List Lost
 drop_in_taken path taken.TheVariants.Read = []
 drop_in_taken path taken.TheVariants.Masked = []
@@ -355,7 +359,7 @@ drop_in_same path Mask = refl
 drop_in_same path (Unusable reason) = refl
 drop_in_same path (Text bytes) = refl
 
--- if a path was tried, and then what is lost of it was reported, `AreReadAlso` holds for this path
+-- if a path was tried, and then an error was added if it can't be used, `AreReadAlso` holds for this path
 read_one : (machine : Machine) (path : List ℕ) (taken : Taken) (f : Taken → List Lost) (lost : List Lost) (old mid new : Reading)
     → IsTaken machine path taken old mid → f (taken_of (file_at machine path)) ≡ lost → mid.loaded.faults.items ≡ old.loaded.faults.items
     → new.seen ≡ mid.seen → new.loaded.files.items ≡ mid.loaded.files.items
@@ -385,7 +389,8 @@ drop_in_read machine path taken old mid new h same seen files k =
     read_one machine path taken (drop_in_taken path) (lost_drop_in machine path) old mid new h
     (drop_in_same path (file_at machine path)) same seen files k
 
--- if a drop-in can't be used for a reason that is reported, and was reported, `AreReadAlso` holds for it
+-- if a drop-in can't be used, for a reason that has to be reported (`lost_for`), and its error was added, `AreReadAlso`
+-- holds for the drop-in
 pub lost_read : (machine : Machine) (path : String Global) (place : List ℕ) (reason : Reason) (tried : Taken) (old mid new : Reading)
     → place ≡ string_bytes path → tried ≡ taken.TheVariants.Unusable reason → IsTaken machine place tried old mid
     → mid.loaded.faults.items ≡ old.loaded.faults.items → new.seen ≡ mid.seen → new.loaded.files.items ≡ mid.loaded.files.items
@@ -401,7 +406,7 @@ lost_read machine path place reason tried old mid new named is h same seen files
 
 -- ## Units
 
--- if the file of a unit was tried, and then its drop-ins if the file is a text, `AreReadFor` holds
+-- if the file of a unit was tried, and then its drop-ins if the file is a text, `AreReadFor` holds for the unit
 unit_read : (machine : Machine) (path : List ℕ) (taken : Taken) (drop_ins : List (List ℕ)) (lost : List Lost) (reason : Option TargetReason) (old mid new : Reading)
     → IsTaken machine path taken old mid → mid.loaded.faults.items ≡ old.loaded.faults.items
     → AreReadAlso machine (if is_read taken then drop_ins else []) (if is_read taken then lost else []) mid new
@@ -418,7 +423,7 @@ unit_read machine path taken drop_ins lost reason old mid new h same k because p
       subst (λ cause. IsCauseIf cause reason) (ap (cause_taken path) was.1 ∙ cause_same path (file_at machine path)) because,
     )
 
--- if the file of a unit can't be used, and so nothing more was tried, `AreReadFor` holds
+-- if the file of a unit can't be used, and so no drop-in was tried, `AreReadFor` holds for the unit
 pub unusable_read : (machine : Machine) (path : List (List ℕ)) (asked file own_file own : List ℕ) (reason : Reason) (found : TargetReason) (unit : Unit) (old new : Reading)
     → IsTaken machine file (taken.TheVariants.Unusable reason) old new → new.loaded.faults.items ≡ old.loaded.faults.items
     → IsCause (cause_of file reason) found → FoundAt file own_file own ≡ unit
@@ -429,7 +434,7 @@ unusable_read machine path asked file own_file own reason found unit old new h s
     (unit_read machine file (taken.TheVariants.Unusable reason) (drop_ins machine path Timer names) (lost_drop_ins machine path names) (Some found) old new new h same
     (λ paths tried. (tried, lost_none new.loaded.faults.items)) because)
 
--- if a unit was read, and then the reason why it is lost was reported, if there is one, `AreReadAlso` holds
+-- if a unit was read (`AreReadFor`), and then, if the unit is lost, the reason was reported, `AreReadAlso` holds
 pub reported_read : (machine : Machine) (more : List (List ℕ)) (lost : List Lost) (cause : Option Cause) (reason given : Option TargetReason) (also : List Lost) (old mid new : Reading)
     → AreReadFor machine more lost cause reason old mid → reason ≡ given → new.seen ≡ mid.seen → new.loaded.files.items ≡ mid.loaded.files.items
     → (IsCauseIf cause given → AreLostAlso also mid.loaded.faults.items new.loaded.faults.items)
@@ -440,7 +445,8 @@ reported_read machine more lost cause reason given also old mid new h e seen fil
       lost_both lost also old.loaded.faults.items mid.loaded.faults.items new.loaded.faults.items was.1 (k (subst (IsCauseIf cause) e was.2)),
     )
 
--- if a name isn't valid, nothing was tried, and this was reported, then `AreReadAlso` holds for the name
+-- if a name isn't valid, no path was tried, and the name was reported as not found, then `AreReadAlso` holds for the
+-- name
 pub invalid_read : (machine : Machine) (path : List (List ℕ)) (name : List ℕ) (stem : Option (List ℕ)) (old new : Reading) → None ≡ stem
     → new.seen ≡ old.seen → new.loaded.files.items ≡ old.loaded.files.items
     → AreLostAlso (lost_as name (Some Absent)) old.loaded.faults.items new.loaded.faults.items
@@ -449,7 +455,7 @@ invalid_read machine path name stem old new e seen files h =
     subst (λ stem. AreReadAlso machine (paths_if_valid machine path stem) (lost_if_valid machine path stem ++ lost_as name (cause_if_valid machine path stem)) old new) e
     (read_errors machine (lost_as name (Some Absent)) old new seen files h)
 
--- if the unit with a valid name is lost, and this was reported, then `AreReadAlso` holds for the name
+-- if a name is valid, and its unit is lost and was reported, then `AreReadAlso` holds for the name
 pub valid_read : (machine : Machine) (path : List (List ℕ)) (name asked : List ℕ) (stem : Option (List ℕ)) (found : Option TargetReason) (reason : TargetReason) (old mid new : Reading)
     → Some asked ≡ stem
     → AreReadFor machine (unit_paths machine path asked) (lost_of_unit machine path asked (unit_on machine path asked)) (cause_of_unit machine (unit_on machine path asked)) found old mid
@@ -480,8 +486,8 @@ drop_ins_read machine path names paths unread old mid new are unread_are seen fi
 
 -- ## Folders
 
--- if the names in a folder can't be read, nothing was tried, and this was reported, then `AreReadAlso` holds for its
--- texts
+-- if the names in a folder can't be read, no path was tried, and the folder was reported, then `AreReadAlso` holds for
+-- the texts in the folder
 pub unread_read : (machine : Machine) (folder : List ℕ) (names : Result Listing Unreadable) (reason : TargetReason) (old new : Reading)
     → new.seen ≡ old.seen → new.loaded.files.items ≡ old.loaded.files.items → IsUnreadReason folder names reason
     → ((cause : Cause) → IsCause cause reason → AreLostAlso (lost_as folder (Some cause)) old.loaded.faults.items new.loaded.faults.items)
@@ -509,7 +515,7 @@ texts_read machine folder keys old new e h =
     ∙ ap (λ names. flat_map (lost_file machine) (paths_in folder names)) e))
     h
 
--- if the texts in a folder were tried, and then its units, and then what can't be read of it was reported,
+-- if the texts in a folder were tried, and then its units, and then the paths in it that can't be read were reported,
 -- `AreReadAlso` holds for the folder
 pub folder_read : (machine : Machine) (folder : List ℕ) (stems : List (List ℕ)) (unread : List Fault) (old mid last new : Reading)
     → stems ≡ units_in_folder machine folder → unread ≡ unread_in_folder machine folder

@@ -21,8 +21,8 @@ use Rattle.cal_load.specs.rules.FileFaults.Cause.{Absent, IsTemplate, UnusableAt
 three_paths : each_once (codes "a" ∷ codes "b" ∷ codes "a" ∷ codes "c" ∷ codes "b" ∷ codes "a" ∷ []) ≡ codes "a" ∷ codes "b" ∷ codes "c" ∷ []
 three_paths = refl
 
--- The file of `a` can't be read, that of `b` is a link to nothing, and `t@` is a template. Another unit starts the instance
--- `t@i`, and it isn't known what `w` starts.
+-- The file of `a` can't be read, that of `b` is a link to nothing, and `t@` is a template. Another unit starts the
+-- instance `t@i`, and it isn't known what `w` starts.
 abbrev machine : Machine
 machine =
     record {
@@ -55,7 +55,7 @@ named_units : map (lost_named machine path) (codes "a" ∷ codes "b.timer" ∷ c
 unfolding walk after_prefix template_of listed_stem file_stem unit_stem without_suffix is_stem unit_kind_of instance_of
 named_units = refl
 
--- the stems of all units, and those of the units that other units start
+-- the stems of all units, and then those of the units that other units start
 units : map (units_on machine path) (true ∷ false ∷ []) ≡ (codes "a" ∷ codes "b" ∷ codes "t@i" ∷ []) ∷ (codes "t@i" ∷ []) ∷ []
 unfolding by_name walk after_prefix template_of listed_stem file_stem unit_stem without_suffix is_stem unit_kind_of instance_of
 units = refl
@@ -72,8 +72,8 @@ disabled_units : map (is_disabled (started_if_all machine path true)) (codes "a.
 unfolding by_name walk after_prefix template_of listed_stem file_stem unit_stem without_suffix is_stem unit_kind_of instance_of
 disabled_units = refl
 
--- files that can't be read are reported by their paths, also in a folder, and so is a path to nothing; then come the
--- units of the folder, and the folder that says which of them are started
+-- A file that can't be read, or a path that leads to nothing, is reported by its path, even if the target is the folder
+-- `/etc`. After the files of that folder come its units, and the folder `w.wants` in it, which can't be read.
 paths : map (lost_at machine) (codes "/etc/a.timer" ∷ codes "/etc/b.timer" ∷ codes "/etc" ∷ [])
     ≡ (unreadable (codes "/etc/a.timer") (codes "/etc/a.timer") ∷ []) ∷ (absent (codes "/etc/b.timer") ∷ [])
     ∷ (unreadable (codes "/etc/a.timer") (codes "/etc/a.timer") ∷ absent (codes "/etc/b.timer") ∷ unreadable (codes "/etc/t@.timer") (codes "/etc/t@.timer")
@@ -82,7 +82,8 @@ paths : map (lost_at machine) (codes "/etc/a.timer" ∷ codes "/etc/b.timer" ∷
 unfolding by_name walk after_prefix template_of listed_stem file_stem unit_stem without_suffix is_stem unit_kind_of instance_of
 paths = refl
 
--- a folder stands for its units, also for an instance that is linked in it, and for what can't be read
+-- a folder stands for its units, including an instance that a folder `v.wants` in it starts, and for what can't be read
+-- in it
 folder_targets : sought_at machine (codes "/etc")
     ≡ FolderUnit (codes "/etc") (codes "a") ∷ FolderUnit (codes "/etc") (codes "b") ∷ FolderUnit (codes "/etc") (codes "t@i")
     ∷ UnreadPath (record { path = codes "/etc/w.wants"; reason = Unreadable Failed }) ∷ []

@@ -13,8 +13,8 @@ one_setting : (setting : Option IgnoredSetting) → cons_option setting [] ≡ o
 one_setting None = refl
 one_setting (Some setting) = refl
 
--- if `old` has the ignored settings among `before`, and `new` also has that of one more assignment, then `new` has the
--- ignored settings among all of them
+-- if `old` has the ignored settings among `before`, and `new` also has that of the assignment `a` if systemd ignores
+-- `a`, then `new` has the ignored settings among `before` and `a`
 pub ignored_more : (name : List ℕ) (counted : Option ℕ) (before : List OwnedAssignment) (a : OwnedAssignment) (old new : List IgnoredSetting)
     → old ≡ ignored_among name counted (map shown_owned_assignment before)
     → new ≡ old ++ option_to_list (ignored_setting name counted (shown_owned_assignment a))

@@ -41,8 +41,8 @@ pub nothing_kept : kept_in [] ≡ []
 unfolding kept_in
 nothing_kept = refl
 
--- if `old` is kept of the assignments in `before`, then `kept_with` returns what is kept of them and one more
--- assignment
+-- if `old` has what is kept of the assignments in `before`, then `kept_with` returns what is kept of `before` and one
+-- more assignment
 pub assignment_kept : (before : List OwnedAssignment) (a : OwnedAssignment) (old new : List Assignment)
     → old ≡ kept_in (map shown_owned_assignment before) → new ≡ kept_with old (shown_owned_assignment a)
     → new ≡ kept_in (map shown_owned_assignment (before ++ a ∷ []))
@@ -62,7 +62,7 @@ filtered_map : (keep : Assignment → Bool) (notes : List OwnedAssignment)
 filtered_map keep [] = refl
 filtered_map keep (note ∷ notes) = filtered_step (keep (shown_owned_assignment note)) note _ _ (filtered_map keep notes)
 
--- if the notes that `later` undoes are removed from a list, the assignments that it shows are those that `later`
+-- if the notes that `later` undoes are removed from a list, the remaining notes show the assignments that `later`
 -- doesn't undo
 pub undone : (later : Assignment) (old new : List OwnedAssignment) → new ≡ filter (λ note. not (undoes later (shown_owned_assignment note))) old
     → map shown_owned_assignment new ≡ filter (λ note. not (undoes later note)) (map shown_owned_assignment old)
@@ -81,7 +81,7 @@ nothing_undone later (note ∷ notes) e f =
 
 -- ## Notes
 
--- removing the kept assignments that aren't noted leaves those that are
+-- filtering the kept assignments by `is_noted` leaves the ones that `noted_of` returns
 pub only_noted : (own service : List ℕ) (unit : Option ℕ) (old new : List OwnedAssignment) → service ≡ service_of own
     → unit ≡ unit_line own (map shown_owned_assignment old) → new ≡ filter (λ note. is_noted service unit (shown_owned_assignment note)) old
     → map shown_owned_assignment new ≡ noted_of own (map shown_owned_assignment old)

@@ -21,7 +21,8 @@ notes_for name list = map note_text (notes_in name (settings 1 list))
 notes : List (List ℕ × List ℕ) → List (List ℕ)
 notes list = notes_for (codes "a.timer") list
 
--- each monotonic timer counts, except for one with an invalid time span; systemd replaces specifiers
+-- all monotonic timers are noted, except for one with an invalid time span; one whose value has a specifier is noted
+-- unchanged, since the value may depend on the running system
 monotonic : notes (
     (codes "OnBootSec", codes "5min") ∷ (codes "OnBootSec", codes "abc") ∷ (codes "OnBootSec", codes "1h")
     ∷ (codes "OnStartupSec", codes "infinity") ∷ (codes "OnUnitActiveSec", codes "%i") ∷ [])
@@ -39,7 +40,7 @@ reset : notes (
 unfolding notes notes_for settings noted_of kept_in is_noted is_taken starts replaces undoes kind_of keys_of names_unit is_unit_name has_unit_suffix is_reset without_suffix span_of pairs_in words_in is_number number_worth unit_named worth_of spellings_of
 reset = refl
 
--- an invalid or empty delay keeps the one before it
+-- a later delay replaces an earlier one, unless the later one is empty or invalid
 kept_delay : notes (
     (codes "RandomizedDelaySec", codes "1h") ∷ (codes "RandomizedDelaySec", codes "5min")
     ∷ (codes "RandomizedDelaySec", []) ∷ (codes "RandomizedDelaySec", codes "%i") ∷ [])
@@ -65,13 +66,13 @@ default_accuracy : notes ((codes "AccuracySec", codes "1h") ∷ (codes "Accuracy
 unfolding notes notes_for settings noted_of kept_in is_noted is_taken starts replaces undoes kind_of keys_of names_unit is_unit_name has_unit_suffix is_reset without_suffix span_of pairs_in words_in is_number number_worth unit_named worth_of spellings_of
 default_accuracy = refl
 
--- an accuracy longer than the default is noted, and an invalid one keeps the one before it
+-- an accuracy longer than the default is noted, and an invalid accuracy doesn't replace an earlier one
 coarse_accuracy : notes ((codes "AccuracySec", codes "2min") ∷ (codes "AccuracySec", codes "-1") ∷ [])
     ≡ codes "AccuracySec=2min" ∷ []
 unfolding notes notes_for settings noted_of kept_in is_noted is_taken starts replaces undoes kind_of keys_of names_unit is_unit_name has_unit_suffix is_reset without_suffix span_of pairs_in words_in is_number number_worth unit_named worth_of spellings_of
 coarse_accuracy = refl
 
--- a word that isn't a boolean keeps the boolean before it, and case doesn't matter
+-- a value that isn't a boolean doesn't replace an earlier one, and the case of a boolean doesn't matter
 booleans : notes (
     (codes "Persistent", codes "yes") ∷ (codes "Persistent", codes "maybe")
     ∷ (codes "FixedRandomDelay", codes "TRUE") ∷ (codes "OnClockChange", codes "1") ∷ (codes "OnClockChange", [])
@@ -81,7 +82,7 @@ booleans : notes (
 unfolding notes notes_for settings noted_of kept_in is_noted is_taken starts replaces undoes kind_of keys_of names_unit is_unit_name has_unit_suffix is_reset without_suffix span_of pairs_in words_in is_number number_worth unit_named worth_of spellings_of
 booleans = refl
 
--- the last boolean counts, and false ones aren't noted
+-- of several booleans for a key the last counts, and false ones aren't noted
 false_booleans : notes (
     (codes "Persistent", codes "y") ∷ (codes "Persistent", codes "No") ∷ (codes "FixedRandomDelay", codes "t")
     ∷ (codes "FixedRandomDelay", codes "f") ∷ (codes "OnClockChange", codes "on")
@@ -91,14 +92,14 @@ false_booleans : notes (
 unfolding notes notes_for settings noted_of kept_in is_noted is_taken starts replaces undoes kind_of keys_of names_unit is_unit_name has_unit_suffix is_reset without_suffix span_of pairs_in words_in is_number number_worth unit_named worth_of spellings_of
 false_booleans = refl
 
--- the first unit counts
+-- of several `Unit=`, the first counts
 first_unit : notes (
     (codes "Unit", codes "b.service") ∷ (codes "Unit", codes "c.service") ∷ (codes "Unit", []) ∷ [])
     ≡ codes "Unit=b.service" ∷ []
 unfolding notes notes_for settings noted_of kept_in is_noted is_taken starts replaces undoes kind_of keys_of names_unit is_unit_name has_unit_suffix is_reset without_suffix span_of pairs_in words_in is_number number_worth unit_named worth_of spellings_of
 first_unit = refl
 
--- neither an invalid name nor the timer itself is a unit that counts
+-- a `Unit=` with an invalid name, or with the name of the timer itself, doesn't count
 valid_unit : notes (
     (codes "Unit", []) ∷ (codes "Unit", codes "b") ∷ (codes "Unit", codes "a.timer")
     ∷ (codes "Unit", codes "/b.service") ∷ (codes "Unit", codes "b.target") ∷ (codes "Unit", codes "c.service")
@@ -107,13 +108,13 @@ valid_unit : notes (
 unfolding notes notes_for settings noted_of kept_in is_noted is_taken starts replaces undoes kind_of keys_of names_unit is_unit_name has_unit_suffix is_reset without_suffix span_of pairs_in words_in is_number number_worth unit_named worth_of spellings_of
 valid_unit = refl
 
--- the service with the timer's name counts, but isn't noted
+-- a `Unit=` that names the service with the timer's own name isn't noted, but it counts, so later ones don't
 own_service : notes ((codes "Unit", codes "a.service") ∷ (codes "Unit", codes "b.service") ∷ [])
     ≡ []
 unfolding notes notes_for settings noted_of kept_in is_noted is_taken starts replaces undoes kind_of keys_of names_unit is_unit_name has_unit_suffix is_reset without_suffix span_of pairs_in words_in is_number number_worth unit_named worth_of spellings_of
 own_service = refl
 
--- a template counts, since systemd instantiates it
+-- a `Unit=` with a template counts, since systemd instantiates it
 template_unit : notes ((codes "Unit", codes "t@.service") ∷ (codes "Unit", codes "b.service") ∷ [])
     ≡ codes "Unit=t@.service" ∷ []
 unfolding notes notes_for settings noted_of kept_in is_noted is_taken starts replaces undoes kind_of keys_of names_unit is_unit_name has_unit_suffix is_reset without_suffix span_of pairs_in words_in is_number number_worth unit_named worth_of spellings_of

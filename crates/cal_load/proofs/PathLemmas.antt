@@ -13,7 +13,7 @@ use Rattle.cal_load.specs.rules.AllTargets.{root, unless_empty}
 abbrev trimmed : List ℕ → List ℕ
 trimmed path = trim_end_matches is_slash path
 
--- one slash more at the end makes no difference
+-- one more slash at the end of a path makes no difference once the trailing slashes are removed
 one_slash : (front : List ℕ) → trimmed (front ++ 47 ∷ []) ≡ trimmed front
 unfolding trim_end_matches
 one_slash front =

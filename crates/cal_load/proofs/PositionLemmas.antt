@@ -52,7 +52,7 @@ split_lines true b [] h = absurd (omega arith)
 split_lines true b (part ∷ parts) h = (omega arith, omega arith)
 split_lines false b parts h = onto_first_lines b parts
 
--- one more byte in front of a text doesn't decrease the number of its lines, and increases it by at most one
+-- one more byte at the beginning of a text doesn't decrease the number of its lines, and increases it by at most one
 byte_lines : (b : ℕ) (text : List ℕ)
     → (length (lines text) ≤ length (lines (b ∷ text))) × (length (lines (b ∷ text)) ≤ length (lines text) + 1)
 byte_lines b text =
@@ -147,7 +147,7 @@ module _ (P : ℕ → Type 0) where
   of_lines inside all h =
       assigned (timer_lines inside (map trimmed all)) (sectioned (map trimmed all) inside (All-map (λ (line : Line). P line.number) trimmed all h))
 
--- the logical lines of a text have the numbers of some of its lines
+-- each logical line of a text has the number of one of the lines of the text
 logical_numbers : (first : ℕ) (text : List ℕ) → All (λ line. IsOneFrom first (length (lines text)) line.number) (logical_lines first text)
 unfolding logical_lines plain_lines physical_lines
 logical_numbers first text =
@@ -158,7 +158,7 @@ logical_numbers first text =
     (grouped (IsOneFrom first (length (lines text))) (plain_lines first text)
     (All-filter (λ line. not (is_comment line.text)) (λ (line : Line). IsOneFrom first (length (lines text)) line.number) (numbered_lines first texts) physical))
 
--- the assignments that systemd reads in a file have the numbers of some of its lines
+-- each assignment that systemd reads in a file has the number of one of the lines of the file
 read_numbered : (first : ℕ) (bytes : List ℕ) → All (λ a. IsOneFrom first (length (lines bytes)) a.number) (assignments_read first bytes)
 unfolding assignments_read
 read_numbered first bytes =
@@ -168,7 +168,7 @@ read_numbered first bytes =
     (of_lines (IsOneFrom first (length (lines text))) false (before_first is_broken (logical_lines first text))
     (All-take (λ (line : Line). IsOneFrom first (length (lines text)) line.number) _ (logical_lines first text) (logical_numbers first text)))
 
--- the assignments of files have the numbers of some of their lines
+-- each assignment in several files has the continued number of one of their lines
 numbers_from : (first : ℕ) (files : List UnitText) → All (λ a. IsOneFrom first (total_lines files) a.number) (assignments_from first (bytes_in files))
 unfolding assignments_from
 numbers_from first [] = All-nil (λ (a : Assignment). IsOneFrom first 0 a.number)
@@ -221,7 +221,7 @@ module _ (P : ℕ → Type 0) where
       resolved_if_about (may_have_specifiers a) a (value_filled own a) (filter_map (resolved own) list) (All-head (λ (a : Assignment). P a.number) a list h)
       (resolved_about own list (All-tail (λ (a : Assignment). P a.number) a list h))
 
--- the assignments of a timer have the numbers of some lines of its files
+-- each assignment of a timer has the continued number of one of the lines of its files
 pub timer_numbered : (name : List ℕ) (files : List UnitText) → All (λ a. HasLine files a.number) (timer_assignments name files)
 timer_numbered name files = resolved_about (HasLine files) (last_part name) (assignments_of_files files) (assignments_numbered files)
 
@@ -284,7 +284,8 @@ pub shown_at : (files : List texts.UnitText) (i : ℕ) (file : texts.UnitText) �
     → get_or (map shown_unit_text files) i (shown_unit_text file) ≡ shown_unit_text file
 shown_at files i file h at = get_or-map shown_unit_text files i file (shown_unit_text file) h ∙ ap shown_unit_text (sym at)
 
--- if the number of the next file's first line is appended, the first lines of one more file have the right numbers
+-- if `numbers` has the continued number of the first line of each of the first `i` files, and that of the next file is
+-- appended, then the list has these numbers for the first `i + 1` files
 pub first_lines_more : (files : List UnitText) (numbers more : List ℕ) (i first : ℕ) → length numbers ≡ i → first ≡ total_lines (take i files) + 1
     → more ≡ numbers ++ first ∷ [] → ((k : ℕ) → k < i → get_or numbers k 0 ≡ total_lines (take k files) + 1)
     → (k : ℕ) → k < i + 1 → get_or more k 0 ≡ total_lines (take k files) + 1
@@ -297,7 +298,8 @@ first_lines_more files numbers more i first count is pushed before k h =
           )
     ]
 
--- if `index` is that of the last file that begins at or before a line, the line is in one of the files up to this one
+-- if `index` is the index of the last file that begins at or before a line, the line is in this file or in an earlier
+-- one
 before_next : (files : List UnitText) (numbers : List ℕ) (number index : ℕ) → AreFirstLines files numbers → number ≤ total_lines files
     → IsLastUntil numbers number index → number ≤ total_lines (take (index + 1) files)
 before_next files numbers number index are within last =
@@ -310,7 +312,8 @@ before_next files numbers number index are within last =
       | inr le ↦ subst (λ all. number ≤ total_lines all) (sym (take_all (index + 1) files le)) within
     ]
 
--- if a line has a position (`IsPosition`), it is this line of the file at this path (`IsLineIn`)
+-- if a continued number has the position `path` and `line` (`IsPosition`), it is the number of this line of the file at
+-- this path (`IsLineIn`)
 pub line_at : (files : List texts.UnitText) (numbers : List ℕ) (number : ℕ) (path : List ℕ) (line : ℕ)
     → AreFirstLines (map shown_unit_text files) numbers → HasLine (map shown_unit_text files) number → IsPosition files numbers number path line
     → IsLineIn (map shown_unit_text files) number path line
@@ -335,7 +338,8 @@ line_at files numbers number path line are has h =
       is_within = (omega arith, omega arith);
     }
 
--- if the first of these numbers is at most `number`, one of them is the last that is
+-- if the first of the numbers is at most `number`, and all numbers from index `n` on are greater, then one of the
+-- numbers is the last that is at most `number`
 last_exists : (n : ℕ) (numbers : List ℕ) (number : ℕ) → 0 < n → n ≤ length numbers → get_or numbers 0 0 ≤ number
     → ((k : ℕ) → n ≤ k → k < length numbers → number < get_or numbers k 0) → (index : ℕ) × IsLastUntil numbers number index
 last_exists zero numbers number some fits first above = absurd (omega arith)
@@ -349,7 +353,7 @@ last_exists (suc (suc n)) numbers number some fits first above =
       | inr le ↦ (suc n, (omega arith, le, λ k h l. above k (omega arith) l))
     ]
 
--- a line of one of the files has a position
+-- each line of one of the files has a position; the line's number in its file is at most its continued number
 pub has_position : (files : List texts.UnitText) (numbers : List ℕ) (number : ℕ) → AreFirstLines (map shown_unit_text files) numbers
     → HasLine (map shown_unit_text files) number → (path : List ℕ) × (line : ℕ) × IsPosition files numbers number path line × (line ≤ number)
 has_position [] numbers number are has = absurd (omega (arith, has.0, has.1))
@@ -375,7 +379,8 @@ has_position (file ∷ files) numbers number are has =
       omega arith,
     )
 
--- what is found for a line of one of the files is the file and the number of the line in it
+-- if the search for a position returns the right result for a line of one of the files, it finds the file's path and
+-- the number of the line in this file
 pub found_line : (files : List texts.UnitText) (numbers : List ℕ) (number : ℕ) (found : Option (Bor (List ℕ) × ℕ)) → number < 2 ^ 32
     → AreFirstLines (map shown_unit_text files) numbers → HasLine (map shown_unit_text files) number
     → MatchOption found ((path : List ℕ) (line : ℕ) → IsPosition files numbers number path line → 2 ^ 32 ≤ line)
@@ -387,7 +392,7 @@ found_line files numbers number None fits are has h =
     absurd (omega (arith, position.3))
 found_line files numbers number (Some position) fits are has h = line_at files numbers number position.0.now position.1 are has h
 
--- only one index is that of the last number that is at most `number`
+-- there is only one index of the last number that is at most `number`
 pub last_unique : (numbers : List ℕ) (number i j : ℕ) → IsLastUntil numbers number i → IsLastUntil numbers number j → i ≡ j
 last_unique numbers number i j h k =
     elim (cases_order i j) [

@@ -90,7 +90,8 @@ ends_in_backslash text e =
     ∙ ap (λ bs. take at text ++ get_or text at 0 ∷ bs) (drop_all (suc at) text (omega arith))
     ∙ ap (λ b. take at text ++ b ∷ []) byte
 
--- if a text that begins with the part of a continued line is UTF-8, then so are the line and what comes after the part
+-- if what a continued line contributes to its logical line, followed by `rest`, is UTF-8, then so are the line and
+-- `rest`
 utf8_continued : (text rest : List ℕ) → is_continued text ≡ true → IsUtf8 (part_of_line text ++ rest) → IsUtf8 text × IsUtf8 rest
 unfolding part_of_line
 utf8_continued text rest e h =
@@ -107,7 +108,7 @@ utf8_part true text rest e last h = (utf8_continued text rest e h).0
 utf8_part false text rest e last h = subst IsUtf8 (rw e (ap (λ ys. text ++ ys) (last refl) ∙ append-nil text)) h
 
 -- The groups of the text that is read in place of a file, and the groups of the file. They are the same up to the group
--- that has the line `bad`; that group is the last one of the text.
+-- that has the line `bad`, which is the last group of the text.
 record Parallel (bad : Line) (shown file : List Group) : Type 0 where
   front : List Group
   stand : Group
@@ -202,7 +203,7 @@ parallel (line ∷ before) stand bad after same =
 
 -- ## Assignments
 
--- the assignments that are read in the sections `Timer` are those of a timer file
+-- for the sections `Timer`, `section_read` returns the assignments that `assignments_read` returns
 pub timer_section_read : (first : ℕ) (bytes : List ℕ) → section_read (codes "Timer") first bytes ≡ assignments_read first bytes
 unfolding section_read assignments_read
 timer_section_read first bytes = assignments_of_timer false (before_first is_broken (file_lines first bytes))
@@ -315,7 +316,7 @@ some_line : (part : List ℕ) → 0 < length part → lines_of_parts (part ∷ [
 some_line [] h = absurd (omega arith)
 some_line (b ∷ part) h = grind (arith, nat_tests)
 
--- what ends a physical line
+-- what a physical line ends with: nothing, a line feed, or a carriage return and a line feed
 pub data End : List ℕ → Type 0 where
   unended : End []
   feed : End (10 ∷ [])
@@ -339,13 +340,13 @@ unfolding trim_start_matches
 comment_by true b bs ending e same = rw (e, one-add (prefix_len is_blank_or_return (bs ++ ending)), one-add (prefix_len is_blank_or_return bs)) same
 comment_by false b bs ending e same = rw e refl
 
--- whether a line is a comment doesn't depend on what ends it
+-- whether a line is a comment doesn't depend on its line ending
 comment_ended : (content ending : List ℕ) → End ending → is_comment (trim_start_matches is_blank_or_return (content ++ ending)) ≡ is_comment (trim_start_matches is_blank_or_return content)
 unfolding trim_start_matches
 comment_ended [] ending e = comment_empty ending e
 comment_ended (b ∷ content) ending e = comment_by (is_blank_or_return b) b content ending refl (comment_ended content ending e)
 
--- `line` is the first physical line of `bytes`, with what ends it; `after` comes after it
+-- `line` is the first physical line of `bytes`, including its line ending, and `after` is what comes after it
 pub record FirstLine (bytes line after : List ℕ) : Type 0 where
   pub content : List ℕ
   pub ending : List ℕ
@@ -430,7 +431,7 @@ first_line bytes some = first_by (nat_lt (position_or_len is_feed bytes) (length
 pub one_line_more : (bytes : List ℕ) → 0 < length bytes → length (lines bytes) ≡ 1 + length (lines (after_first is_feed bytes))
 one_line_more bytes some = ap length (first_line bytes some).whole ∙ omega arith
 
--- the plain line of a physical line with this content: none if it is a comment
+-- what `plain_lines` returns for a physical line with this content: nothing if it is a comment
 abbrev one_plain : ℕ → List ℕ → List Line
 one_plain number content =
     if is_comment (trim_start_matches is_blank_or_return content) then []
@@ -473,13 +474,13 @@ shorter_by true comment line e c = rw e (omega arith)
 shorter_by false true line e c = rw (e, c) (two_bytes line e c)
 shorter_by false false line e c = rw (e, c) (some_bytes line e)
 
--- what stands for a line isn't longer than the line
+-- what replaces a line in the text that is read isn't longer than the line
 pub shorter_line : (line : List ℕ) → length (line_in_text line) ≤ length line
 shorter_line line = shorter_by (is_utf8 line) (is_comment (trim_start_matches is_blank_or_return line)) line refl refl
 
 -- ## The text that is read in place of a file
 
--- `text` stands for the bytes of a file up to `rest`
+-- reading `text` has the same result as reading `bytes` without its end `rest`
 pub record Reads (number : ℕ) (bytes text rest : List ℕ) : Type 0 where
   pub found : List Line
   pub next : ℕ
@@ -496,7 +497,8 @@ reads_nothing number bytes = record {
   more = λ h later. refl;
 }
 
--- what stands for a line has the same plain line
+-- For the text that replaces `line`, `plain_lines` returns what `one_plain` returns for `content`. If `line` isn't the
+-- last line, more text can follow, and its plain lines come next.
 record Shows (line content after : List ℕ) : Type 0 where
   alone : (number : ℕ) → plain_lines number (line_in_text line) ≡ one_plain number content
   more : 0 < length after → (number : ℕ) (later : List ℕ) → plain_lines number (line_in_text line ++ later) ≡ one_plain number content ++ plain_lines (number + 1) later
@@ -539,7 +541,7 @@ reads_line number bytes text rest line after some f h r =
           ∙ ap (λ ls. r.found ++ ls) (s.more left r.next later) ∙ sym (append_assoc r.found one (plain_lines (r.next + 1) later));
     }
 
--- at the end of the file, the text stands for all of it
+-- if no bytes of the file are left, reading the text has the same results as reading the whole file
 pub reads_all : (number : ℕ) (bytes text : List ℕ) → Reads number bytes text [] → StandFor false (logical_lines number text) (logical_lines number bytes)
 unfolding logical_lines
 reads_all number bytes text r =
@@ -578,7 +580,7 @@ cut_by false false number bytes text rest line after f e c h some r =
     let file : plain_lines number bytes ≡ r.found ++ bad ∷ plain_lines (r.next + 1) after = r.in_file ∙ ap (λ ls. r.found ++ ls) here in
     rw (shown, file) (cut_parallel bad _ _ (parallel r.found stand bad (plain_lines (r.next + 1) after) refl) not_text)
 
--- if the text is cut at a line that isn't UTF-8, it stands for the whole file
+-- if the text is cut at a line that isn't UTF-8, reading it has the same results as reading the whole file
 pub reads_cut : (number : ℕ) (bytes text rest line after : List ℕ) → 0 < length rest → FirstLine rest line after → is_readable line ≡ false → Reads number bytes text rest
     → StandFor true (logical_lines number (text ++ line_in_text line)) (logical_lines number bytes)
 reads_cut number bytes text rest line after some f h r =

@@ -72,7 +72,7 @@ specified_clears_nothing : (a : Assignment) → may_have_specifiers a ≡ true �
 unfolding is_reset
 specified_clears_nothing a e = some_value a.value _ _ e
 
--- without specifiers, no expression is unclear
+-- an assignment without specifiers isn't an unclear expression
 pub plain_unclear : (own : List ℕ) (unclear : List Assignment) (a : Assignment) → may_have_specifiers a ≡ false
     → after_reset unclear a ≡ unclear_with own unclear a
 unfolding is_unclear_expression

@@ -19,7 +19,7 @@ asks_none is_user = refl
 abbrev asks_among : Bool → List Assignment → Bool
 asks_among is_user = list_any (λ a. command_asks is_user a.value)
 
--- the conditions, with the empty ones among them
+-- if one more assignment is a condition, with or without a value, it is appended to the conditions so far
 conditions_with : (before : List Assignment) (a : Assignment) (is : Bool) → is_condition a ≡ is
     → filter is_condition (before ++ a ∷ []) ≡ filter is_condition before ++ (if is then a ∷ [] else [])
 conditions_with before a true e = filter-append is_condition before (a ∷ []) ∙ rw e refl
@@ -48,8 +48,8 @@ more_by is_user before a true false e f =
 asks_more : (is_user : Bool) (before : List Assignment) (a : Assignment) → any_asks is_user (before ++ a ∷ []) ≡ asks_after is_user (any_asks is_user before) a
 asks_more is_user before a = more_by is_user before a (is_condition a) (has_no_value a) refl refl
 
--- if a loop has the answer for the first `i` assignments, then after the next one it has the answer for the first
--- `i + 1`
+-- if `before` says whether one of the conditions among the first `i` assignments runs `calendar-timers due`, then `now`
+-- says it for the first `i + 1`
 pub asks_step : (is_user : Bool) (xs : List OwnedAssignment) (i : ℕ) (x : OwnedAssignment) (before now : Bool)
     → i < length xs → x ≡ get_or xs i x → before ≡ any_asks is_user (map shown_owned_assignment (take i xs)) → now ≡ asks_after is_user before (shown_owned_assignment x)
     → now ≡ any_asks is_user (map shown_owned_assignment (take (i + 1) xs))

@@ -12,7 +12,8 @@ system_commands : map (command_asks false)
 unfolding command_asks words trim_start_matches
 system_commands = refl
 
--- other commands: of another program or verb, with `--user`, as the argument of another program, with quotes
+-- commands that don't: of another program or verb, with `--user`, as an argument of another program, with quotes, or
+-- incomplete
 other_commands : map (command_asks false)
     (codes "/usr/bin/my-calendar-timers due" ∷ codes "/usr/bin/calendar-timers list" ∷ codes "/usr/bin/calendar-timers --user due" ∷ codes "/bin/echo /usr/bin/calendar-timers due"
     ∷ codes "'/usr/bin/calendar-timers' due" ∷ codes "calendar-timers" ∷ codes "due" ∷ [] ∷ [])
@@ -39,7 +40,8 @@ other = (codes "ExecCondition", codes "/bin/true")
 abbrev cleared : List ℕ × List ℕ
 cleared = (codes "ExecCondition", [])
 
--- one of the conditions after the last empty one has to ask; an empty value of another key clears nothing
+-- one of the conditions after the last empty one has to run `calendar-timers due`; an empty value of another key clears
+-- nothing
 lists : map (λ settings. any_asks false (assigned settings))
     ((ours ∷ []) ∷ (ours ∷ other ∷ []) ∷ (other ∷ ours ∷ []) ∷ (cleared ∷ ours ∷ []) ∷ (ours ∷ (codes "ExecStartPre", []) ∷ [])
     ∷ [] ∷ (other ∷ []) ∷ (ours ∷ cleared ∷ []) ∷ (ours ∷ cleared ∷ other ∷ []) ∷ ((codes "ExecStartPre", codes "/usr/bin/calendar-timers due") ∷ []) ∷ [])

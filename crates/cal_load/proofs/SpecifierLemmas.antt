@@ -22,8 +22,8 @@ joined_assoc (Text x) (Text y) Invalid = refl
 joined_assoc (Text x) (Text y) Unclear = refl
 joined_assoc (Text x) (Text y) (Text z) = ap Text (append_assoc x y z)
 
--- if the parts before, joined with the remaining parts, give `total`, they still do after the next part, `x`, has moved
--- from the remaining parts to those before
+-- if the parts so far, joined with the remaining parts, give `total`, they still do after the next part, `x`, has been
+-- joined to the parts so far
 pub joined_more : {X : Type 0} (f : X → Filling) (before after total : Filling) (x : X) (xs ys : List X) → ys ≡ x ∷ xs → after ≡ joined before (f x) → joined before (all_joined (map f ys)) ≡ total → joined after (all_joined (map f xs)) ≡ total
 joined_more f before after total x xs ys next more h =
     rw more (joined_assoc before (f x) (all_joined (map f xs)) ∙ (rw next at h))

@@ -64,7 +64,7 @@ unknown : filled_in (codes "x.timer") (codes "%Z" ∷ codes "%9" ∷ codes "%H%Z
 unfolding filled_in without_suffix instance_of unit_kind_of unescaped is_of_system is_of_instance is_utf8 chars encode
 unknown = refl
 
--- specifiers that depend on more than the name
+-- specifiers that depend on more than the timer's name are unclear
 unclear : filled_in (codes "x.timer") (codes "%H" ∷ codes "Mon %f %n" ∷ [])
     ≡ Unclear ∷ Unclear ∷ []
 unfolding filled_in without_suffix instance_of unit_kind_of unescaped is_of_system is_of_instance is_utf8 chars encode
@@ -82,13 +82,13 @@ bad_escapes : filled_in (codes "t@a\\b.timer") (codes "%I" ∷ codes "%i" ∷ []
 unfolding filled_in without_suffix instance_of unit_kind_of unescaped is_of_system is_of_instance is_utf8 chars encode
 bad_escapes = refl
 
--- an escape has two hexadecimal digits in either case, which are not both 0
+-- an escape is `\x` and two hexadecimal digits in either case, which aren't both 0
 escapes : map (λ name. filled_of name (codes "%I")) (codes "t@a\\x4a\\x4A.timer" ∷ codes "t@\\x4.timer" ∷ codes "t@\\x4g.timer" ∷ codes "t@\\X41.timer" ∷ codes "t@\\x00.timer" ∷ codes "t@\\.timer" ∷ [])
     ≡ Text (codes "aJJ") ∷ Invalid ∷ Invalid ∷ Invalid ∷ Invalid ∷ Invalid ∷ []
 unfolding filled_in without_suffix instance_of unit_kind_of unescaped is_of_system is_of_instance is_utf8 chars encode
 escapes = refl
 
--- a byte that isn't UTF-8 by itself, and two bytes that are UTF-8 together
+-- a byte that isn't UTF-8 by itself is invalid, but two bytes can be UTF-8 together
 not_utf8 : map (λ name. filled_of name (codes "%I")) (codes "t@\\xc3.timer" ∷ codes "t@\\xc3\\xa9.timer" ∷ [])
     ≡ Invalid ∷ Text (195 ∷ 169 ∷ []) ∷ []
 unfolding filled_in without_suffix instance_of unit_kind_of unescaped is_of_system is_of_instance is_utf8 chars encode

@@ -1,4 +1,4 @@
--- Lemmas on why the files of a timer can't be loaded.
+-- Lemmas on the errors that say why the files of a timer can't be loaded.
 use Rattle.std.proofs.Common.{◌≡◌, ◌+◌, ◌≤◌, ◌^◌, ℕ, List, [], ◌∷◌, ◌++◌, Some, arith, take, drop, length, refl, subst, sym}
 use Rattle.std.proofs.lemmas.List.{take-append-drop}
 use Rattle.std.proofs.lemmas.List.Elements.{Contains-append_right}
@@ -24,7 +24,8 @@ use Rattle.cal_load.specs.rules.TextFaults.{IsReadFault, IsReadReason, IsTextFau
 
 -- ## Texts
 
--- if systemd stops reading the unit's own file at a line, this is why the files can't be read
+-- if systemd stops reading the unit's own file at a line, the error about this line says why the files can't be read
+-- (`IsReadFault`)
 pub broken_read : (own : UnitText) (drop_ins : List UnitText) (line : BrokenLine) (fault : TargetLoadFault) → broken_own (own ∷ drop_ins) ≡ Some line
     → IsBrokenFault own.path line fault → IsReadFault (own ∷ drop_ins) fault
 broken_read own drop_ins line (faults.TheVariants.Target reason) is h =
@@ -48,7 +49,7 @@ read_reason machine name files (NothingToDo own read) h = absurd h
 read_reason machine name files (Expression fault) h = h
 read_reason machine name files (ExpressionZone zone reason) h = absurd h
 
--- if files can't be read, this is why they don't make a timer
+-- an error that says why files can't be read also says why they don't make a timer
 pub read_text : (machine : Machine) (name : List ℕ) (files : List UnitText) (fault : TargetLoadFault) → IsReadFault files fault → IsTextFault machine name files fault
 read_text machine name files (faults.TheVariants.Target reason) h = read_reason machine name files reason h
 read_text machine name files faults.TheVariants.NoMemory h = tt
@@ -67,7 +68,7 @@ error_named machine names name (zone_faults.Unread origin) has h = h
 error_named machine names name (zone_faults.At path reason) has h = (name, has, h.0, h.1)
 error_named machine names name zone_faults.NoMemory has h = tt
 
--- the first error in loading zones is about one of the names
+-- the first error in loading zones with these names is an error about one of the names
 pub first_named : (machine : Machine) (names : List (List ℕ)) (found : ZonesFault) → IsFirstError machine names found → IsZonesError machine names found
 first_named machine names found h =
     error_named machine names h.name found (next_contained names h.index h.name h.after h.is_at) h.is_error

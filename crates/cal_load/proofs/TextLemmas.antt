@@ -10,11 +10,12 @@ use Rattle.cal_load.specs.declared.readable.BrokenLine.{BrokenLine}
 use Rattle.cal_load.specs.rules.Loaded.{assignments_from, broken_from, broken_of_files, broken_own, bytes_in}
 use Rattle.cal_load.specs.rules.Readable.{assignments_read, broken_line}
 
--- `one` is a list that is found in one file, and `from` joins the lists that are found in several files
+-- `one` returns a list for a single file, and `from` joins the lists of several files
 module _ {X : Type 0} (one : ℕ → List ℕ → List X) (from : ℕ → List (List ℕ) → List X)
     (step : (first : ℕ) (bytes : List ℕ) (rest : List (List ℕ)) → from first (bytes ∷ rest) ≡ one first bytes ++ from (first + length (lines bytes)) rest)
     (none : (first : ℕ) → from first [] ≡ []) where
-  -- what is found in the files from index `i` on is what is found in the file with this index and in the later files
+  -- the list of the files from index `i` on is the list of the file at this index, followed by the list of the later
+  -- files
   found_here : (files : List UnitText) (i : ℕ) (file : UnitText) (first : ℕ) → i < length files → file ≡ get_or files i file
       → one first file.bytes.items ++ from (first + length (lines file.bytes.items)) (bytes_in (map shown_unit_text (drop (i + 1) files)))
       ≡ from first (bytes_in (map shown_unit_text (drop i files)))
@@ -63,7 +64,7 @@ pub none_broken : (first : ℕ) → broken_from first [] ≡ []
 unfolding broken_from
 none_broken first = refl
 
--- the first of the lines at which systemd stops reading the files is that of the unit's own file
+-- the first element of the list of the lines at which systemd stops is the one for the unit's own file
 pub first_broken : (files : List FileText) (line : Option BrokenLine) → slice_get (broken_of_files files) 0 ≡ Some line → line ≡ broken_own files
 unfolding broken_from
 first_broken [] line e = absurd (cc)

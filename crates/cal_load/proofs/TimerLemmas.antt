@@ -23,23 +23,23 @@ timers_more machine path (Ok (targets.TheVariants.Timer timer)) before after h e
 timers_more machine path (Ok targets.TheVariants.Masked) before after h e held = rw (e, append-nil before) held
 timers_more machine path (Err fault) before after h e held = rw (e, append-nil before) held
 
--- if what was found is a unit of the machine (`IsLoadedUnit`), then `IsLoadedTarget` holds
+-- if what was loaded is a unit of the machine (`IsLoadedUnit`), then `IsLoadedTarget` holds
 pub unit_found : (machine : Machine) (path : List (List ℕ)) (asked : List ℕ) (found : targets.LoadedTarget) → IsLoadedUnit machine path asked found → IsLoadedTarget machine path found
 unit_found machine path asked (targets.TheVariants.Timer timer) h = inl (asked, h)
 unit_found machine path asked targets.TheVariants.Masked h = tt
 
--- if what was found is a file of the machine (`IsLoadedFile`), then `IsLoadedTarget` holds
+-- if what was loaded is a file of the machine (`IsLoadedFile`), then `IsLoadedTarget` holds
 pub file_found : (machine : Machine) (path : List (List ℕ)) (found : targets.LoadedTarget) → IsLoadedFile machine found → IsLoadedTarget machine path found
 file_found machine path (targets.TheVariants.Timer timer) h = inr (inl h)
 file_found machine path targets.TheVariants.Masked h = tt
 
--- if what was found is a unit of a folder, then `IsLoadedTarget` holds
+-- if what was loaded is a unit of a folder, then `IsLoadedTarget` holds
 pub folder_unit_found : (machine : Machine) (path : List (List ℕ)) (folder asked : List ℕ) (found : targets.LoadedTarget)
     → IsLoadedUnit machine (folder ∷ []) asked found → IsLoadedTarget machine path found
 folder_unit_found machine path folder asked (targets.TheVariants.Timer timer) h = inr (inr (folder, asked, h))
 folder_unit_found machine path folder asked targets.TheVariants.Masked h = tt
 
--- what was found of the file of a unit (`IsFoundTarget`) is this unit (`IsLoadedUnit`)
+-- if a timer was loaded from the file of a unit (`IsFoundTarget`), then `IsLoadedUnit` holds for this unit
 pub found_is_unit : (machine : Machine) (path : List (List ℕ)) (asked file own_file own : List ℕ) (found : targets.LoadedTarget)
     → FoundAt file own_file own ≡ unit_on machine path asked → IsFoundTarget machine path file own_file own asked found
     → IsLoadedUnit machine path asked found
@@ -48,7 +48,7 @@ found_is_unit machine path asked file own_file own (targets.TheVariants.Timer ti
     subst P is h
 found_is_unit machine path asked file own_file own targets.TheVariants.Masked is h = subst (IsMasked machine) is h
 
--- a unit's own file, and then its drop-ins, are the files of the unit
+-- if `all` has a unit's own file, and then its drop-ins, it has the files of the unit in order
 pub own_before_drop_ins : (machine : Machine) (file : List ℕ) (own : texts.UnitText) (more all : List texts.UnitText) (dropped : List UnitText)
     → shown_unit_text own ∷ [] ≡ text_at machine file → map shown_unit_text more ≡ dropped → all ≡ own ∷ more
     → map shown_unit_text all ≡ text_at machine file ++ dropped

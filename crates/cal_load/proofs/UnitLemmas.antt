@@ -1,4 +1,4 @@
--- Lemmas on what targets stand for, and on the results of loading it.
+-- Lemmas on what targets stand for, and on the outcomes of loading them.
 use Rattle.std.proofs.Common.{◌≡◌, ◌+◌, ◌<◌, get_or, length, take, Bool, filter, ◌∙◌, append_assoc, ℕ, List, [], ◌∷◌, ◌++◌, Ok, Err, Option, Result, ap, append-nil, inl, inr, map, refl, string_bytes, subst, false, sym, true}
 use Rattle.std.proofs.lemmas.List.{flat_map_more, map-append, take_more}
 use Rattle.std.proofs.lemmas.Grind.{flat_map-append}
@@ -32,7 +32,7 @@ use Rattle.cal_load.specs.declared.target_fault.TargetFault.{TargetFault}
 
 -- ## Faults are kept
 
--- a list that begins with another list has all its faults
+-- a list that begins with another list has all faults of that list
 pub keeps_appended : (old new more : List TargetFault) → new ≡ old ++ more → Keeps old new
 keeps_appended old new more e fault has = rw e (Contains-append_left old more fault has)
 
@@ -81,13 +81,13 @@ pub fault_pushed : (old new : List TargetFault) (fault : TargetFault) (name : Li
 fault_pushed old new fault name found e named is =
     subst (HasFault new name) (sym is) (fault, rw e (Contains-push old fault), named, refl)
 
--- if what is at a path can't be used, an error which says so is the error for the target whose file is at this path
+-- if what is at a path can't be used, an error that says so is the right error for a target whose file is at this path
 pub file_unusable : (machine : Machine) (why : Reason) (path : List ℕ) (read : FileRead) (name : List ℕ) (files : List UnitText) (fault : TargetLoadFault) → Unusable why ≡ read
     → IsUnusableFault why path fault → IsFileFault machine read path name files fault
 file_unusable machine why path read name files (faults.TheVariants.Target reason) is h = subst (λ read. IsFileReason machine read path name files reason) is h
 file_unusable machine why path read name files faults.TheVariants.NoMemory is h = tt
 
--- what was pushed is kept if only faults are added afterwards
+-- if what was found for a name was pushed (`IsPushed`), and only faults are added afterwards, `IsPushed` still holds
 pub pushed_kept : (name : List ℕ) (found : Result targets.LoadedTarget TargetLoadFault) (old mid new : Loaded)
     → new.timers ≡ mid.timers → new.masked ≡ mid.masked → IsPushed name found old mid → Keeps mid.faults.items new.faults.items → IsPushed name found old new
 pushed_kept name found old mid new timers masked pushed keeps = record {
@@ -99,8 +99,9 @@ pushed_kept name found old mid new timers masked pushed keeps = record {
 
 -- ## Sets of stems
 
--- If `before` is `start` with what `f` returns for the views of `xs` in addition, and `after` also has what it returns
--- for the view of `x`, then `after` is `start` with what it returns for the views of `xs` followed by `x`.
+-- Suppose that `before` is the sorted list `start` with the texts added that `f` returns for the elements of `xs`, seen
+-- through `view`, and that `after` also has the text that `f` returns for `x`, if any. Then `after` is `start` with the
+-- texts for `xs` and `x` added.
 pub set_added : {X Y : Type 0} (f : Y → Option (List ℕ)) (view : X → Y) (start before after : List (List ℕ)) (xs : List X) (x : X)
     → after ≡ with_texts before (option_to_list (f (view x))) → before ≡ with_texts start (filter_map f (map view xs))
     → after ≡ with_texts start (filter_map f (map view (xs ++ x ∷ [])))
@@ -110,14 +111,15 @@ set_added f view start before after xs x added held =
     ∙ sym (fold-append (insert_key (slice_cmp nat_cmp)) start (filter_map f (map view xs)) (option_to_list (f (view x))))
     ∙ ap (with_texts start) (appended_more f view [] (filter_map f (map view xs)) (filter_map f (map view xs) ++ option_to_list (f (view x))) xs x refl refl)
 
--- adding what `f` returns for `ys` to the set of what it returns for `xs` makes the set for both
+-- adding the texts that `f` returns for `ys` to the set of the texts that it returns for `xs` makes the set for `xs ++
+-- ys`
 pub set_of_both : (f : List ℕ → Option (List ℕ)) (xs ys : List (List ℕ)) → with_texts (sorted_once (filter_map f xs)) (filter_map f ys) ≡ sorted_once (filter_map f (xs ++ ys))
 set_of_both f xs ys =
     sym (fold-append (insert_key (slice_cmp nat_cmp)) [] (filter_map f xs) (filter_map f ys))
     ∙ ap sorted_once (sym (filter_map-append f xs ys))
 
--- if `before` is the set of the names in `xs` that pass a test, and `after` also has `x` if it passes, then `after` is
--- the set for `xs` and `x`
+-- if `before` is the set of the names in `xs` that pass a test, and `after` also has the name of `x` if it passes, then
+-- `after` is the set for `xs` and `x`
 pub passing_pushed : {X : Type 0} (test : List ℕ → Bool) (view : X → List ℕ) (before after : List (List ℕ)) (xs : List X) (x : X)
     → after ≡ with_texts before (filter test (view x ∷ [])) → before ≡ sorted_once (filter test (map view xs))
     → after ≡ sorted_once (filter test (map view (xs ++ x ∷ [])))
@@ -129,8 +131,8 @@ passing_pushed test view before after xs x added held =
 
 -- ## Several outcomes
 
--- if `IsMore` holds for `first`, and then for `second`, it holds for both; after the second step, more may be known of
--- the machine
+-- if `IsMore` holds for `first`, and then for `second`, it holds for both; what is known of the machine after the
+-- second step includes what was known after the first
 pub more_both : (Knows Now : Machine → List (List ℕ) → Type 0) (first second : Machine → List (List ℕ) → List Sought) (old mid new : Loaded)
     → ((machine : Machine) (path : List (List ℕ)) → Now machine path → Knows machine path)
     → IsMore Knows first old mid → IsMore Now second mid new → IsMore Now (λ machine path. first machine path ++ second machine path) old new
@@ -191,7 +193,8 @@ none_more Knows loaded = record {
   };
 }
 
--- if nothing had been loaded before, everything that was loaded comes from these outcomes
+-- if `IsMore` holds and nothing had been loaded before, everything that was loaded comes from what was looked for
+-- (`HasAll`)
 pub all_loaded : (Knows : Machine → List (List ℕ) → Type 0) (sought : Machine → List (List ℕ) → List Sought) (start loaded : Loaded)
     → start.timers.items ≡ [] → start.masked.items ≡ [] → IsMore Knows sought start loaded → HasAll Knows sought loaded
 all_loaded Knows sought start loaded timers masked h = record {
@@ -217,7 +220,7 @@ one_outcome Knows sought found true_of = record {
   are_all = λ machine path knows. refl;
 }
 
--- if what was found was pushed under its name, `IsMore` holds for what was looked for
+-- if what was found for `sought` was pushed under its name, `IsMore` holds for `sought`
 pub pushed_more : (Knows : Machine → List (List ℕ) → Type 0) (sought : Sought) (name : List ℕ) (old new : Loaded) (found : Result targets.LoadedTarget TargetLoadFault)
     → name ≡ name_of sought → IsPushed name found old new
     → ((machine : Machine) (path : List (List ℕ)) → Knows machine path → IsFound machine path sought found)
@@ -234,7 +237,7 @@ pushed_more Knows sought name old new found e pushed true_of = record {
   are = one_outcome Knows sought found true_of;
 }
 
--- if a unit of the search path has no file, `IsMore` holds for it although nothing was loaded
+-- if a unit of the search path has no file, `IsMore` holds for this unit although nothing was loaded
 pub absent_more : (Knows : Machine → List (List ℕ) → Type 0) (stem : List ℕ) (loaded : Loaded) (found : Result targets.LoadedTarget TargetLoadFault)
     → is_absent found ≡ true → ((machine : Machine) (path : List (List ℕ)) → Knows machine path → IsFoundOf machine path stem found)
     → IsMore Knows (λ machine path. ListedUnit stem ∷ []) loaded loaded
@@ -257,8 +260,8 @@ pub ok_or_err : {X E : Type 0} (P : X → Type 0) (Q : E → Type 0) (R : Result
 ok_or_err P Q R (Ok x) f g h k = f x h
 ok_or_err P Q R (Err e) f g h k = g e k
 
--- if `IsMore` holds for the elements in `xs`, and then for `x`, it holds for all of them; `make` returns what is
--- looked for, given the view of an element
+-- if `IsMore` holds for the elements in `xs`, and then for `x`, it holds for all of them; for an element, seen through
+-- `view`, `make` returns what is looked for
 pub one_more : {X Y : Type 0} (Knows Now : Machine → List (List ℕ) → Type 0) (make : Y → Sought) (view : X → Y) (xs : List X) (x : X) (y : Y) (old mid new : Loaded)
     → ((machine : Machine) (path : List (List ℕ)) → Now machine path → Knows machine path) → y ≡ view x
     → IsMore Knows (λ machine path. map make (map view xs)) old mid → IsMore Now (λ machine path. make y ∷ []) mid new
@@ -273,7 +276,8 @@ one_more Knows Now make view xs x y old mid new known is h k =
     ∙ ap (map make) (sym (map-append view xs (x ∷ []))))
     (more_both Knows Now (λ machine path. before) (λ machine path. make y ∷ []) old mid new known h k)
 
--- if the units of a folder were loaded, and then what can't be read of it was reported, `IsMore` holds for the folder
+-- if the units of a folder were loaded, and then the paths in it that can't be read were reported, `IsMore` holds for
+-- the folder
 pub folder_more : (Knows : Machine → List (List ℕ) → Type 0) (Shows : Machine → Type 0) (folder : List ℕ) (stems : List (List ℕ)) (unread : List Fault) (old mid new : Loaded)
     → ((machine : Machine) (path : List (List ℕ)) → Shows machine → Knows machine path)
     → ((machine : Machine) → Shows machine → stems ≡ units_in_folder machine folder)

@@ -56,7 +56,7 @@ zone_in_more : (old new : ZoneMap) (name : Option (List ℕ)) → ((other : List
 zone_in_more old new None more h = refl
 zone_in_more old new (Some name) more h = more name h
 
--- lines that fit the entries still do if the table gets more zones
+-- if lines fit the entries (`AreTried`), they still fit after more zones are added to the table
 tried_more : (machine : Machine) (old new : ZoneMap) (entries : List (TimerLine Fields)) (lines : List UnusableZone)
     → ((other : List ℕ) → is_some (zone_named old other) ≡ true → is_some (zone_named new other) ≡ true)
     → AreTried machine old entries lines → AreTried machine new entries lines
@@ -106,7 +106,7 @@ or_last false false c h = h
 one_named : (name : List ℕ) (found : Option (List ℕ)) → found ≡ Some name → list_any (bytes_eq name) (option_to_list found) ≡ true
 one_named name found e = rw (e, (bytes_eq-Decides name name).1 refl) refl
 
--- a line that names no zone is kept
+-- `IsTried` still holds after a line that names no zone, for which nothing was done
 pub none_tried : (machine : Machine) (before : List (TimerLine Fields)) (entry : TimerLine Fields) (tried : CalendarZones) → name_in entry.expr.zone ≡ None
     → IsTried machine before tried → IsTried machine (before ++ entry ∷ []) tried
 none_tried machine before entry tried none h = record {
@@ -135,7 +135,7 @@ name_known before entry name other false had is e has known =
     ap (λ c. is_utc_name other || c) (named_more before entry other)
     ∙ or_more (is_utc_name other) _ (names_zone other entry) (known (or_either had false has refl))
 
--- a line whose zone was loaded is kept
+-- `IsTried` still holds after a line whose zone was loaded into the table
 pub zone_tried : (machine : Machine) (before : List (TimerLine Fields)) (entry : TimerLine Fields) (name : List ℕ) (old new : CalendarZones)
     → name_in entry.expr.zone ≡ Some name → new.unusable ≡ old.unusable
     → ((other : List ℕ) → is_some (zone_named new.zones other) ≡ (is_some (zone_named old.zones other) || bytes_eq other name))
@@ -157,7 +157,7 @@ zone_tried machine before entry name old new is same names zones h = record {
     or_true true = refl
     or_true false = refl
 
--- a line whose zone couldn't be loaded is added to the unusable zones
+-- `IsTried` still holds after a line whose zone couldn't be loaded, and which was added to the unusable zones
 pub unusable_tried : (machine : Machine) (before : List (TimerLine Fields)) (entry : TimerLine Fields) (name : List ℕ) (old new : CalendarZones) (line : UnusableZone)
     → name_in entry.expr.zone ≡ Some name → new.zones ≡ old.zones → new.unusable.items ≡ old.unusable.items ++ line ∷ [] → line.number ≡ entry.number
     → is_utc_name name ≡ false → (string_bytes line.path ≡ zone_path name) × IsReasonOn machine name line.reason
@@ -179,7 +179,7 @@ unusable_tried machine before entry name old new line is zones added number othe
 
 -- ## All entries
 
--- before any zone is loaded, no entry has been tried
+-- before any zone is loaded, `IsTried` holds for the empty list of entries
 pub nothing_tried : (machine : Machine) (tried : CalendarZones) → tried.zones ≡ empty → tried.unusable.items ≡ [] → IsTried machine [] tried
 nothing_tried machine tried none no_lines = record {
   names = λ name has. known (is_utc_name name) (sym (empty_has name) ∙ ap (λ table. is_some (zone_named table name)) (sym none) ∙ has);
@@ -201,7 +201,8 @@ zip_step : (machine : Machine) (c : Bool) (entry : TimerLine Fields) (entries : 
 zip_step machine true entry entries line lines is h = (is, h)
 zip_step machine false entry entries line lines is h = h
 
--- without the lines whose zone is in the table after all, the lines are those of the entries whose zone isn't
+-- once the lines whose zone is in the table after all are removed, one line is left for each entry whose zone isn't in
+-- the table
 left_lines : (machine : Machine) (table : ZoneMap) (entries : List (TimerLine Fields)) (lines : List UnusableZone) → AreTried machine table entries lines
     → AreUnusableLines machine table entries (filter (λ line. not (is_loaded table line)) lines)
 left_lines machine table [] lines h = rw h tt
@@ -231,9 +232,9 @@ and_false : (b : Bool) → (b && false) ≡ false
 and_false true = refl
 and_false false = refl
 
--- with one more entry, it is still true that the kept entries name a zone if and only if an entry names it and the
--- table has it; `keeps` says whether the new entry is kept, `names` whether it names the zone, and `has` whether the
--- table has the zone
+-- Suppose that the kept entries name a zone if and only if one of the entries names it and the table has it. This is
+-- still true with one more entry. `keeps` says whether this entry is kept, `names` whether it names the zone, and `has`
+-- whether the table has the zone.
 kept_step : (keeps names has all : Bool) (name : List ℕ) (entry : TimerLine Fields) (kept : List (TimerLine Fields)) → names_zone name entry ≡ names
     → (names ≡ true → keeps ≡ has) → list_any (bytes_eq name) (zone_names_in kept) ≡ (all && has)
     → list_any (bytes_eq name) (zone_names_in (cond keeps (entry ∷ kept) kept)) ≡ ((names || all) && has)
@@ -246,7 +247,8 @@ kept_step true false has all name entry kept is f e =
 kept_step false true has all name entry kept is f e = e ∙ ap (λ b. all && b) (sym (f refl)) ∙ and_false all ∙ f refl
 kept_step false false has all name entry kept is f e = e
 
--- the entries whose zone is in the table name exactly those of the zones that are in the table
+-- one of the entries whose zone is in the table names `name` if and only if one of all entries does and the table has
+-- `name`
 kept_names : (table : ZoneMap) (name : List ℕ) (entries : List (TimerLine Fields))
     → list_any (bytes_eq name) (zone_names_in (filter (has_zone table) entries)) ≡ (list_any (bytes_eq name) (zone_names_in entries) && is_some (zone_named table name))
 kept_names table name [] = refl
@@ -296,7 +298,7 @@ zoned_calendar machine old new tried found same expressions exceptions unusable 
           (left_lines machine tried.zones (expressions_in old ++ exceptions_in old) tried.unusable.items h.lines));
     }
 
--- if the lines whose zone can't be used are removed from the calendar of files, `IsCalendarOf` holds
+-- if the lines whose zone can't be used are removed from the calendar that was read from files, `IsCalendarOf` holds
 pub zoned_files : (machine : Machine) (name : List ℕ) (files : List UnitText) (old new : calendars.Calendar) (found : CalendarZones)
     → IsCalendarBy (timer_assignments name files) old → IsZoned machine old new found → IsCalendarOf name files found.zones new
 zoned_files machine name files old new found by zoned = (
@@ -304,7 +306,7 @@ zoned_files machine name files old new found by zoned = (
   zoned.exceptions ∙ ap (filter (has_zone found.zones)) by.1,
 )
 
--- the unusable zones are those of the files' entries whose zone isn't in the table
+-- the lines whose zone can't be used are those of the entries in the files whose zone isn't in the table
 pub unusable_of_files : (machine : Machine) (name : List ℕ) (files : List UnitText) (old new : calendars.Calendar) (found : CalendarZones)
     → IsCalendarBy (timer_assignments name files) old → IsZoned machine old new found
     → AreUnusableLines machine found.zones (entries_of_files name files) found.unusable.items

@@ -1,5 +1,5 @@
--- Lemmas on timers without the lines whose zone can't be used: what was read of them, and why nothing starts their
--- unit.
+-- Lemmas on timers without the lines whose zone can't be used: what was read from their files, and why nothing starts
+-- their unit.
 use Rattle.std.proofs.Common.{◌≡◌, ◌∙◌, ◌==◌, ℕ, All, Bool, List, [], ◌∷◌, None, false, true, ap, length, map, refl, string_bytes, subst, sym}
 use Rattle.std.proofs.lemmas.Bool.{false≢true}
 use Rattle.std.proofs.lemmas.List.{nil_from_length}
@@ -58,7 +58,7 @@ files_read machine name all read old new found filed listed whole broken first_l
           (entries_numbered expr_in (HasLine files) (timer_assignments name files) (timer_numbered name files)) unusable;
     }
 
--- if nothing starts the unit of a timer, this is why its files don't make a timer
+-- if nothing starts the unit of a timer, `HasNothingToDo` holds, which says why the files don't make a timer
 pub unstarted_text : (machine : Machine) (name own : List ℕ) (all : List texts.UnitText) (read : TimerFiles) (old new : calendars.Calendar) (found : CalendarZones) (is_started : Bool)
     → name ≡ own → all ≡ read.texts.items → found.unusable.items ≡ read.unusable_zones.items
     → broken_own (map shown_unit_text all) ≡ None → read.broken.items ≡ broken_of_files (map shown_unit_text all)
@@ -84,7 +84,7 @@ still_started machine name files old new found true by zoned started other none 
 still_started machine name files old new found false by zoned started other none unclear =
     absurd (other refl ((zoned_files machine name files old new found by zoned).0 ∙ none))
 
--- if a timer has what was read of its files, `IsTimerReadFrom` holds for it and these files
+-- if a timer has what was read from its files, `IsTimerReadFrom` holds for the timer and these files
 pub timer_read : (machine : Machine) (name : List ℕ) (all : List texts.UnitText) (timer : LoadedTimer) (old : calendars.Calendar) (found : CalendarZones) (is_started : Bool)
     → name ≡ string_bytes timer.name → all ≡ timer.files.texts.items → found.zones ≡ timer.zones → found.unusable.items ≡ timer.files.unusable_zones.items
     → broken_own (map shown_unit_text all) ≡ None → timer.files.broken.items ≡ broken_of_files (map shown_unit_text all)

@@ -1,4 +1,4 @@
--- What the manuals and this project's own rules say. The laws and the contracts of this crate cite these definitions.
+-- What the manuals and this project's own rules say. The contracts of this crate cite these definitions.
 pub mod AllFiles
 pub mod AllTargets
 pub mod AllUnits

@@ -21,7 +21,7 @@ pub struct Calendar {
     exceptions: Vec<TimerLine>,
 }
 
-/// A line with an expression or an exception that is ignored because it is invalid.
+/// A line that is ignored because its expression or exception is invalid.
 #[derive(Clone, Copy, Debug)]
 pub struct IgnoredLine {
     /// The number of the line. Line numbers continue from file to file.
@@ -30,7 +30,7 @@ pub struct IgnoredLine {
     pub fault: SpecFault,
 }
 
-/// The calendar of a timer, and the lines that are ignored.
+/// The calendar of a timer, and the lines that were ignored in reading it.
 #[derive(Debug, Drop)]
 pub(crate) struct CalendarLines {
     pub(crate) calendar: Calendar,
@@ -38,7 +38,7 @@ pub(crate) struct CalendarLines {
 }
 
 impl Calendar {
-    /// Creates the calendar with these expressions and no exceptions.
+    /// Creates a calendar with these expressions and no exceptions.
     pub(crate) fn of_expressions(alloc: Global, lines: Vec<TimerLine>) -> Calendar
         ensures expressions { expressions_in result ≡ map shown lines.items }
         ensures exceptions { exceptions_in result ≡ [] }
@@ -63,7 +63,7 @@ impl Calendar {
         self.exceptions.as_slice()
     }
 
-    /// Removes the expressions and exceptions whose zone isn't in the table.
+    /// Removes the expressions and exceptions that name a zone which isn't in the table.
     pub(crate) fn retain_zoned(&mut self, zones: &ZoneTable)
         ensures expressions { expressions_in self.new ≡ filter (has_zone zones.now) (expressions_in self.old) }
         ensures exceptions { exceptions_in self.new ≡ filter (has_zone zones.now) (exceptions_in self.old) }
@@ -73,8 +73,9 @@ impl Calendar {
     }
 }
 
-/// Reads the expressions and exceptions among these assignments. As in systemd, a line with an invalid expression is
-/// ignored. So is one with an invalid exception, though systemd reads no exceptions. Fails only if allocation fails.
+/// Reads the expressions and exceptions among these assignments. A line with an invalid expression is ignored, as in
+/// systemd. A line with an invalid exception is ignored, too; systemd itself reads no exceptions. Fails only if
+/// allocation fails.
 pub(crate) fn read_calendar(
     alloc: Global,
     assignments: &[OwnedAssignment],
@@ -91,8 +92,8 @@ pub(crate) fn read_calendar(
     Ok(read)
 }
 
-/// Applies one more assignment: it adds to a list, clears a list, is recorded as ignored, or has no effect because of
-/// its key.
+/// Applies one more assignment. An expression or an exception is added to its list, or recorded as ignored if it is
+/// invalid. An assignment that resets one of the lists clears it. Any other assignment has no effect.
 fn read_assignment(
     alloc: Global,
     read: &mut CalendarLines,
@@ -133,7 +134,7 @@ pub(crate) fn borrowed(owned: &OwnedAssignment) -> Assignment<'_>
 }
 
 /// If `adds` is `true`, adds the assignment's expression to `list`, or its line to `ignored` if the expression is
-/// invalid. If only `empties` is `true`, clears `list`.
+/// invalid. Otherwise, if `empties` is `true`, clears `list`.
 fn change(
     alloc: Global,
     list: &mut Vec<TimerLine>,

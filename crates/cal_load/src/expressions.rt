@@ -21,9 +21,9 @@ use cal_zone_files::{FileReason, ZonesFault};
 use std::alloc::{AllocError, Global};
 
 /// Returns the timer that has these calendar expressions and no exceptions (systemd.time(7), Calendar Events). If an
-/// expression is invalid, there is no timer, and [`Loaded::faults`] has the error of the first invalid one. If all are
-/// valid, but one names a zone that can't be loaded, it has the error of the first expression that names this zone.
-/// Fails only if allocation fails.
+/// expression is invalid, there is no timer, and [`Loaded::faults`] has the error of the first invalid expression. If
+/// all expressions are valid, but a zone can't be loaded, there is no timer either, and [`Loaded::faults`] has an error
+/// for the first expression that names this zone. Fails only if allocation fails.
 pub fn load_expressions<T: Tree>(
     alloc: Global,
     tree: &mut T,
@@ -53,7 +53,7 @@ fn only_fault(alloc: Global, target: &str, fault: TargetLoadFault) -> Result<Loa
     Ok(loaded)
 }
 
-/// Appends an expression. Expressions are numbered from 1.
+/// Parses an expression and appends it as a line. Its line number is its position in the list, counted from 1.
 fn push_expression(
     alloc: Global,
     lines: &mut Vec<TimerLine>,
@@ -76,8 +76,8 @@ fn push_expression(
     Ok(())
 }
 
-/// Loads the zones that the lines name. Returns the timer with these lines, or the error if a zone can't be loaded. The
-/// texts of the lines are `expressions`.
+/// Loads the zones that the lines name. Returns the timer with these lines, or an error if a zone can't be loaded.
+/// `expressions` are the texts of the lines.
 fn with_zones<T: Tree>(
     alloc: Global,
     tree: &mut T,

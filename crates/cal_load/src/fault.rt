@@ -1,4 +1,5 @@
-//! Errors in loading a target (a unit, a file or a folder that a user names, or an expression), and lists of them.
+//! Errors in loading a target (a unit, a file or a folder that a user names, or an expression), and lists of such
+//! errors.
 
 ghost use Rattle.std.specs.Prelude.{◌≡◌, ◌∷◌, [], true, OnOk, map, string_bytes};
 ghost use Rattle.cal_unit_index.specs.rules.Index.{shown_fault};
@@ -15,7 +16,7 @@ use std::alloc::{AllocError, AllocFailed, Global};
 /// Why a target can't be loaded.
 #[derive(Debug, Drop)]
 pub(crate) enum TargetLoadFault {
-    /// This target can't be loaded. Others still can.
+    /// The target can't be loaded, for this reason. Other targets still can.
     Target(TargetReason),
     /// Out of memory. After this error, no other target is loaded either.
     NoMemory,
@@ -38,7 +39,7 @@ impl<T: Drop> From<AllocFailed<T>> for TargetLoadFault {
 }
 
 impl TargetLoadFault {
-    /// Returns an error which says that this path can't be used, for this reason, or `NoMemory` if allocation fails.
+    /// Returns the error that this path can't be used, for this reason, or `NoMemory` if allocation fails.
     pub(crate) fn at(alloc: Global, path: &str, reason: Reason) -> TargetLoadFault
         ensures { IsPathFault path.now reason result }
     {
@@ -93,7 +94,8 @@ pub(crate) fn push_fault(
     }
 }
 
-/// Adds an error to `faults` for each of these paths that can't be read, as [`push_once`] does.
+/// Adds an error to `faults` for each path in `lost`, none of which can be read, unless the same error is there
+/// already.
 pub(crate) fn push_lost(
     faults: &mut Vec<TargetFault>,
     lost: Vec<UnitFault>,
@@ -107,7 +109,7 @@ pub(crate) fn push_lost(
     Ok(())
 }
 
-/// Adds an error saying that the path can't be used for this reason, as [`push_once`] does.
+/// Adds the error that the path can't be used for this reason, unless the same error is there already.
 pub(crate) fn push_path(
     faults: &mut Vec<TargetFault>,
     path: String,

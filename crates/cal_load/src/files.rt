@@ -29,28 +29,34 @@ use cal_unit_index::{
 use std::alloc::{AllocError, Global};
 use std::collections::{BTreeMap, BTreeSet};
 
-/// What [`load_files`] returns: the files, unparsed, and the errors about what it couldn't read.
+/// What [`load_files`] returns: files that aren't parsed yet, and the errors about what couldn't be read.
 #[derive(Debug, Drop)]
 pub struct LoadedFiles {
     /// The files in the order of the targets, each once. Their bytes needn't be UTF-8.
     pub files: Vec<UnitText>,
-    /// The units, files and folders that couldn't be read, each with the reason. No error is here twice: if several
-    /// targets lead to the same file that can't be used, its error has the first of them as its target. For a drop-in
-    /// or a folder that can't be read, the target is its own path.
+    /// The units, files and folders that couldn't be read, each with the reason. No error is in the list twice: if
+    /// several targets lead to the same file and it can't be used, there is one error, with the first of these targets.
+    /// If a drop-in or a folder can't be read, the target in the error is the path of this drop-in or folder.
     pub faults: Vec<TargetFault>,
 }
 
-/// Reads the files that the targets stand for, in their order, each once. Without a target, these are the files of the
-/// timers that other units start, or, if `is_all`, also of all others in the search path.
+/// Reads the files that the targets stand for, in the order of the targets, each file once. Without a target, reads the
+/// files of the timers that other units start and, if `is_all`, also those of all other timers in the search path.
 ///
-/// `index` is the index of the search path. A target is a path or the name of a timer, as for [`crate::load_timers`]. A
-/// timer stands for its file and its drop-ins. A folder stands for all its files with the suffix `.timer` or `.conf`,
-/// sorted by name, and then for the drop-ins of its timers. To find these, the folder is read as if it were the only
-/// folder of the search path (systemd.unit(5), Unit File Load Path). Any other file stands for itself. A masked unit
-/// has no files. What can't be read is in [`LoadedFiles::faults`], and all other files are still read. A drop-in that
-/// is a folder, or a link to nothing, is skipped, and so is a unit that has no file if there is no target. Without a
-/// target, a folder `NAME.wants` or `NAME.requires` that can't be read is an error, too, and so is one in a folder
-/// that is a target. Fails only if allocation fails.
+/// `index` is the index of the search path. A target is a path or the name of a timer, as for [`crate::load_timers`]:
+///
+/// - A timer stands for its file and its drop-ins. A masked timer has no files.
+/// - A folder stands for all its files with the suffix `.timer` or `.conf`, sorted by name, and then for the drop-ins
+///   of its timers. To find these, the folder is read as if it were the only folder of the search path
+///   (systemd.unit(5), Unit File Load Path).
+/// - Any other file stands for itself.
+///
+/// What can't be read is in [`LoadedFiles::faults`], and all other files are still read. A folder `NAME.wants` or
+/// `NAME.requires` that can't be read is an error if there is no target, or if it is in a folder that is a target. A
+/// drop-in that is a folder, or a link to nothing, is skipped. Without a target, a unit that has no file is skipped,
+/// too.
+///
+/// Fails only if allocation fails.
 pub fn load_files<T: Tree>(
     alloc: Global,
     tree: &mut T,
@@ -79,7 +85,7 @@ pub fn load_files<T: Tree>(
     Ok(reading.loaded)
 }
 
-/// Reads the files of the timers that other units start, or, if `is_all`, of all timers in the search path.
+/// Reads the files of the timers that other units start and, if `is_all`, also of all others in the search path.
 fn all_files<T: Tree>(
     alloc: Global,
     tree: &mut T,
@@ -107,18 +113,18 @@ fn all_files<T: Tree>(
 /// What is at a path.
 #[derive(Clone, Copy, PartialEq, Eq, Debug)]
 enum Taken {
-    /// A text, which was read.
+    /// A file with text, which was read.
     Read,
-    /// An empty file or a device, which masks a unit.
+    /// An empty file or a device, or a link to one: it masks the unit.
     Masked,
-    /// Nothing, or something that can't be read as a file: the reason says which.
+    /// Nothing, or something that can't be read as a file, for this reason.
     Unusable(Reason),
 }
 
 /// The files that were read so far.
 #[derive(Drop)]
 struct Reading {
-    /// The paths that were tried, with what is there.
+    /// The paths at which reading was tried, each with what is there.
     seen: BTreeMap<String, Taken>,
     loaded: LoadedFiles,
 }
@@ -181,8 +187,8 @@ impl Reading {
         push_once(&mut self.loaded.faults, TargetFault { target, reason })
     }
 
-    /// Reads the files that a target stands for: those of a unit if it is a name, and otherwise those of a folder or
-    /// the single file at this path.
+    /// Reads the files that a target stands for. If the target is a name, these are the files of a unit. If it is a
+    /// path, they are the files of the folder at this path, or the single file there.
     fn take_target<T: Tree>(
         &mut self,
         alloc: Global,
@@ -227,8 +233,8 @@ impl Reading {
         }
     }
 
-    /// Reads the files of the unit that is found for the stem `asked`. Returns why the unit can't be
-    /// read, or `None` if it was read or is masked.
+    /// Reads the files of the unit that is found for the stem `asked`. Returns why the unit can't be read, or `None` if
+    /// it was read or is masked.
     fn take_unit<T: Tree>(
         &mut self,
         alloc: Global,
@@ -250,7 +256,7 @@ impl Reading {
         }
     }
 
-    /// Reads the file of a unit, and then its drop-ins, unless the file is a mask. `asked` is the stem by which the
+    /// Reads the file of a unit and, unless the file masks the unit, its drop-ins. `asked` is the stem by which the
     /// unit was asked for. Returns the reason if the file can't be used.
     fn take_found<T: Tree>(
         &mut self,
@@ -404,7 +410,7 @@ impl Reading {
         }
     }
 
-    /// Reads the file at a path, unless that has been tried before. Returns what is there in either case.
+    /// Returns what is at a path. Reads the file there, unless this has been tried before.
     fn take<T: Tree>(
         &mut self,
         alloc: Global,
@@ -423,7 +429,7 @@ impl Reading {
         self.push_file(alloc, path, found)
     }
 
-    /// Adds what was found at a path that hasn't been tried before.
+    /// Records what was found at a path that hasn't been tried before, and adds the file if there is one.
     fn push_file(&mut self, alloc: Global, path: &str, found: FileRead) -> Result<Taken, AllocError>
         ensures taken { IfOk result (λ taken. taken ≡ taken_of (shown_file found)) }
         ensures tried { OnOk result ((machine : Machine) (paths : List (List ℕ)) → shown_file found ≡ file_at machine path.now
@@ -468,7 +474,7 @@ fn push_text(
     }
 }
 
-/// Returns the reason why a target can't be read, if its own file at this path can't be used.
+/// Returns the reason to report for a target if its own file, at this path, can't be used.
 fn unusable(alloc: Global, path: &str, reason: Reason) -> Result<TargetReason, AllocError>
     ensures { IfOk result (λ found. IsCause (cause_of path.now reason) found) }
 {
@@ -493,7 +499,7 @@ fn is_absent(reason: &TargetReason) -> bool
     matches!(reason, TargetReason::NotFound)
 }
 
-/// Adds an error which says that the target with this name can't be read, for this reason.
+/// Adds the error that the target with this name can't be read for this reason, unless the same error is there already.
 fn push_named(
     alloc: Global,
     faults: &mut Vec<TargetFault>,

@@ -1,4 +1,4 @@
-//! The units of a folder that a user names: those that systemd finds if the search path has only this folder.
+//! The units of a folder that a user names: those that systemd would find if the search path had only this folder.
 
 ghost use Rattle.std.specs.Prelude.{◌≡◌, ◌++◌, ◌∷◌, [], IfOk, OnOk, map, string_bytes};
 ghost use Rattle.cal_machine.specs.rules.Machine.{Machine};
@@ -13,11 +13,11 @@ use std::collections::BTreeSet;
 
 /// The units of a folder that is read as if it were the only folder of the search path.
 pub(crate) struct FolderUnits {
-    /// The index of the search path that has only this folder.
+    /// The index of a search path that has only this folder.
     pub(crate) index: UnitIndex,
     /// The stems of the units' own names.
     pub(crate) stems: BTreeSet<String>,
-    /// What can't be read: folders `NAME.wants` and `NAME.requires` in it, the folder itself, and files of timers in
+    /// What can't be read: the folder itself, folders `NAME.wants` and `NAME.requires` in it, and files of timers in
     /// it.
     pub(crate) unread: Vec<UnitFault>,
 }
@@ -51,7 +51,7 @@ pub(crate) fn units_in_folder<T: Tree>(
     })
 }
 
-/// Reads the index of the search path that has only this folder.
+/// Reads the index of a search path that has only this folder.
 fn index_of<T: Tree>(alloc: Global, tree: &mut T, folder: &str) -> Result<UnitIndex, AllocError>
     ensures known { IfOk result (λ index. (machine : Machine) → T.shows tree.new machine
         → IsIndexOf machine (folder.now ∷ []) index) }

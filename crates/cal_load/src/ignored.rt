@@ -28,7 +28,7 @@ pub enum WhyIgnored {
     BadValue(SettingKind),
     /// `Unit=` names the timer itself.
     OwnName,
-    /// Another `Unit=` above this one counts. systemd ignores this one whatever its value is.
+    /// A `Unit=` above this one counts, so systemd ignores this one, whatever its value is.
     SecondUnit,
 }
 
@@ -41,11 +41,12 @@ pub struct IgnoredSetting {
 }
 
 /// Returns the settings that systemd ignores in the files of the timer `name`, in order: monotonic timers and `Unit=`
-/// with specifiers that make them invalid, each `Unit=` that names the timer itself, and each `Unit=` after the first
-/// one with the valid name of another unit. `name` is the name of a unit, or the path of a file that is read by itself.
+/// settings whose values are invalid once specifiers are filled in, each `Unit=` that names the timer itself, and each
+/// `Unit=` after the first one with the valid name of another unit. `name` is the name of a unit, or the path of a file
+/// that is read by itself.
 ///
-/// A setting whose value is invalid without specifiers is left out, unless it is such a later `Unit=`. A value that
-/// depends on the running system is taken as valid.
+/// A setting whose value is invalid and has no specifiers is left out, unless it is a `Unit=` after the one that
+/// counts. A value that depends on the running system is taken as valid.
 ///
 /// Fails if allocation fails. Also fails if the files are too large for their line numbers to fit into 32 bits; no
 /// timer is loaded from such files.
@@ -60,7 +61,7 @@ pub fn ignored_settings(
     ignored_among(alloc, name, counted, assignments_of(alloc, files)?)
 }
 
-/// Returns the line whose `Unit=` counts: the first with the valid name of another unit.
+/// Returns the number of the line whose `Unit=` counts: the first with the valid name of another unit.
 fn counted_line(alloc: Global, name: &str, files: &[UnitText]) -> Result<Option<u32>, AllocError>
     ensures { IfOk result (λ line. line ≡ counted_line name.now (map shown_unit_text files.now)) }
 {
@@ -105,7 +106,8 @@ fn filled_in(
     Ok(assignments)
 }
 
-/// Returns which of the assignments systemd ignores, if the `Unit=` in the line `counted` counts.
+/// Returns the settings among these assignments that systemd ignores. `counted` is the line whose `Unit=` counts, if
+/// there is one.
 fn ignored_among(
     alloc: Global,
     name: &str,
@@ -139,8 +141,10 @@ fn push_if_ignored(
     Ok(())
 }
 
-/// Returns why systemd ignores an assignment of the timer `name`, if the `Unit=` in the line `counted` counts. Returns
-/// `None` if systemd doesn't ignore it, or if its value is invalid by itself.
+/// Returns why systemd ignores an assignment of the timer `name`, or `None` if systemd doesn't ignore the assignment.
+/// Only monotonic timers and `Unit=` are examined. `counted` is the line whose `Unit=` counts, if there is one. If a
+/// value is invalid and has no specifiers, the result is `None`, too, unless the assignment is a `Unit=` below the line
+/// `counted`.
 #[tactic(auto, unfolding(crate::specs::rules::IgnoredSettings::why_ignored))]
 fn why_ignored(
     alloc: Global,
@@ -159,7 +163,8 @@ fn why_ignored(
     }
 }
 
-/// Returns why systemd ignores a `Unit=` of the timer `name`, if the one in the line `counted` counts.
+/// Returns why systemd ignores a `Unit=` of the timer `name`, as [`why_ignored`] does. `counted` is the line whose
+/// `Unit=` counts, if there is one.
 fn unit_fault(
     alloc: Global,
     name: &str,
@@ -210,7 +215,8 @@ fn is_valid_for(alloc: Global, name: &str, assignment: OwnedAssignment) -> Resul
     Ok(has_taken(filled.as_slice()))
 }
 
-/// Returns the assignment with its specifiers filled in, or an empty list if [`resolve`] drops it.
+/// Returns a list of the assignment with its specifiers filled in, or an empty list if [`resolve`] drops the
+/// assignment.
 fn filled_one(
     alloc: Global,
     name: &str,
@@ -235,7 +241,8 @@ fn has_taken(assignments: &[OwnedAssignment]) -> bool
     false
 }
 
-/// Returns [`WhyIgnored::OwnName`] if the assignment has the timer's own name as its value.
+/// Returns [`WhyIgnored::OwnName`] if the value of the assignment, with its specifiers filled in, is the timer's own
+/// name.
 fn name_fault(
     alloc: Global,
     name: &str,
@@ -274,7 +281,7 @@ fn has_value(value: &str, assignment: &OwnedAssignment) -> bool
     is_taken(assignment) && assignment.value.as_str() == value
 }
 
-/// Returns whether the line with this number is below the line `counted`.
+/// Returns whether the line with this number is below the line `counted`, or `false` if there is no such line.
 fn is_below(counted: Option<u32>, number: u32) -> bool
     ensures { result ≡ is_below counted number }
 {

@@ -1,5 +1,5 @@
-//! Loading the timers that a user names by unit, by file, by folder or by expression, with the zones that their
-//! expressions name, and reading the files of timers without parsing them.
+//! Loading the timers that a user asks for by unit names, files, folders or expressions, together with the zones that
+//! their expressions name; and reading the files of timers without parsing them.
 #![tactic(auto)]
 
 mod calendar;

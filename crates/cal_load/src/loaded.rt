@@ -21,10 +21,10 @@ pub struct LoadedTimer {
     /// The unit's own name, such as `backup.timer`; or the path of a file that was read by itself; or the expressions,
     /// separated by commas.
     pub name: String,
-    /// The files that were read, with the lines in them that are ignored. Empty for expressions.
+    /// The files that were read, with the lines in them that are ignored. A timer made of expressions has no files.
     pub files: TimerFiles,
     /// The valid expressions and exceptions in these files whose zone can be used, or the expressions that were given
-    /// by themselves. Each of the latter has its index, counted from 1, as its line number.
+    /// by themselves. An expression that was given by itself has its index, counted from 1, as its line number.
     pub calendar: Calendar,
     /// The zones that the expressions and exceptions name.
     pub zones: ZoneTable,
@@ -34,8 +34,8 @@ pub struct LoadedTimer {
 }
 
 impl LoadedTimer {
-    /// Returns the calendar expressions in the order of the files. The list is empty if only
-    /// other settings start the unit, or only expressions that depend on more than the timer's name.
+    /// Returns the calendar expressions in the order of the files. The list is empty if the unit is started only by
+    /// other settings, or by expressions that depend on more than the timer's name.
     pub fn lines(&self) -> &[TimerLine]
         ensures { map shown result.now ≡ expressions_in self.now.calendar }
     {
@@ -53,14 +53,14 @@ impl LoadedTimer {
 /// What [`crate::load_timers`] and [`crate::load_expressions`] return: timers, the names of what is masked, and errors.
 #[derive(Drop)]
 pub struct Loaded {
-    /// The timers in the order of the targets. Timers of a folder, and those that are taken without a target, are
-    /// sorted by their stems.
+    /// The timers in the order of the targets. Timers of a folder are sorted by their stems, and so are all timers if
+    /// there are no targets.
     pub timers: Vec<LoadedTimer>,
     /// The names of masked units and the paths of masked files.
     pub masked: Vec<String>,
     /// The units, files, folders and expressions that couldn't be loaded, each with the reason.
     pub faults: Vec<TargetFault>,
-    /// The stems of the units that other units start. `None` unless all units were asked for. A stem is a unit's own
+    /// The stems of the units that other units start, or `None` unless all units were asked for. A stem is a unit's own
     /// name without its suffix `.timer`.
     pub started: Option<BTreeSet<String>>,
 }
@@ -86,7 +86,7 @@ impl Loaded {
         }
     }
 
-    /// Returns whether no other unit starts the timer with this name. Always `false` unless all units were asked for.
+    /// Returns whether no other unit starts the timer with this name. Returns `false` unless all units were asked for.
     pub fn is_disabled(&self, name: &str) -> bool
         ensures { result ≡ is_disabled (shown_stems self.now.started) name.now }
     {

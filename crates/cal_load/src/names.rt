@@ -27,14 +27,14 @@ use std::collections::BTreeSet;
 pub(crate) struct Units {
     /// The stems of the units' own names.
     pub(crate) stems: BTreeSet<String>,
-    /// The stems of the units that other units start. `None` unless all units were asked for.
+    /// The stems of the units that other units start, or `None` unless all units were asked for.
     pub(crate) started: Option<BTreeSet<String>>,
     /// The folders `NAME.wants` and `NAME.requires` that can't be read.
     pub(crate) unreadable: Vec<UnitFault>,
 }
 
-/// Finds the units that other units start, or, if `is_all`, also all others in the search path. A unit that has aliases
-/// is there once. Templates are left out, and so are names under which no file is found.
+/// Finds the units that other units start and, if `is_all`, also all others in the search path. Each unit is found
+/// once, even if it has aliases. Templates are left out, and so are names under which no file is found.
 pub(crate) fn units_in<T: Tree>(
     alloc: Global,
     tree: &mut T,
@@ -139,8 +139,8 @@ fn has_stem(stems: &BTreeSet<String>, stem: &str) -> bool
     stems.contains(stem)
 }
 
-/// Returns the names of the timers and drop-ins in a folder, sorted by their bytes. Hidden files are left out, and
-/// names that are not UTF-8.
+/// Returns the names of the timers and drop-ins in a folder, sorted by their bytes. Hidden files and names that are not
+/// UTF-8 are left out.
 pub(crate) fn texts_in<T: Tree>(
     alloc: Global,
     tree: &mut T,
@@ -156,7 +156,8 @@ pub(crate) fn texts_in<T: Tree>(
     Ok(text_names(alloc, names)?)
 }
 
-/// Returns the names that a timer or a drop-in can have: those with the suffix `.timer` or `.conf` that aren't hidden.
+/// Returns those of the names that a timer or a drop-in can have: they end in `.timer` or `.conf` and don't begin with
+/// a dot.
 fn text_names(alloc: Global, names: Vec<String>) -> Result<BTreeSet<String>, AllocError>
     ensures { IfOk result (λ found. map string_bytes found.keys
         ≡ sorted_once (filter is_text_name (map string_bytes names.items))) }

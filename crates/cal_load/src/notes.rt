@@ -1,6 +1,6 @@
 //! The assignments other than `OnCalendar=` that are noted for a timer: those that decide when it starts a unit, and
 //! which unit that is (systemd.timer(5), Options). Expressions that depend on more than the timer's name are noted,
-//! too; `Resolved` has them.
+//! too, but not here: `Resolved::unclear` has them.
 
 ghost use Rattle.std.specs.Prelude.{◌≡◌, IfOk, OnOk, filter, map, not, string_bytes};
 ghost use Rattle.std.specs.List.{list_any, slice_split};
@@ -22,8 +22,8 @@ const DEFAULT_ACCURACY: u64 = 60_000_000;
 /// The suffix of a timer's name.
 const SUFFIX: &str = ".timer";
 
-/// Returns which of the assignments are noted for the timer with this name. `name` is the name of a unit, or the path
-/// of a file that is read by itself: then the timer's own name is the part after the last slash.
+/// Returns those of the assignments that are noted for the timer with this name. `name` is the name of a unit, or the
+/// path of a file that is read by itself: then the timer's own name is the part after the last slash.
 ///
 /// Assignments that systemd ignores don't count. Every `OnActiveSec=`, `OnBootSec=`, `OnStartupSec=`,
 /// `OnUnitActiveSec=` and `OnUnitInactiveSec=` is returned, but an empty value of one of these keys, or of
@@ -35,7 +35,8 @@ const SUFFIX: &str = ".timer";
 /// - of `AccuracySec=` the last one, if it is longer than the default of one minute;
 /// - of `Unit=` the first one that isn't the timer itself, unless it is the service with the timer's name.
 ///
-/// A monotonic timer or a `Unit=` with a `%` has specifiers that depend on the running system, and is taken as valid.
+/// Specifiers that depend only on the timer's name must have been filled in. If a monotonic timer or a `Unit=` still
+/// has a `%`, what it stands for depends on the running system, and it is taken as valid.
 pub(crate) fn notes_of(
     alloc: Global,
     name: &str,
@@ -107,8 +108,8 @@ fn is_monotonic(key: &str) -> bool
     matches!(kind_of(key), Some(SettingKind::Monotonic))
 }
 
-/// Returns whether the assignment clears all timers: whether it is an `OnCalendar=` or a monotonic timer without a
-/// value.
+/// Returns whether the assignment clears the timer's expressions and monotonic timers: whether it is an `OnCalendar=`
+/// or a monotonic timer without a value.
 fn is_reset(assignment: &OwnedAssignment) -> bool
     ensures { result ≡ is_reset (shown_owned_assignment assignment.now) }
 {
@@ -129,7 +130,7 @@ fn replaces(assignment: &OwnedAssignment) -> bool
     last_counts(kind_of(assignment.key.as_str())) && is_taken(assignment)
 }
 
-/// Returns whether, of several assignments with one key of this kind, only the last counts.
+/// Returns whether only the last of several assignments with the same key counts, if the key is of this kind.
 fn last_counts(kind: Option<SettingKind>) -> bool
     ensures { result ≡ last_counts kind }
 {
@@ -199,7 +200,7 @@ pub(crate) fn without_suffix(name: &str) -> &str
     }
 }
 
-/// Returns the number of the line whose `Unit=` counts: the first that doesn't name the timer `own` itself.
+/// Returns the number of the line whose `Unit=` counts: the first in `kept` that doesn't name the timer `own` itself.
 pub(crate) fn unit_line(own: &str, kept: &[OwnedAssignment]) -> Option<u32>
     ensures { result ≡ unit_line own.now (map shown_owned_assignment kept.now) }
 {
@@ -225,8 +226,8 @@ fn is_started(key: &str) -> bool
     matches!(kind_of(key), Some(SettingKind::Started))
 }
 
-/// Returns whether a kept assignment is noted, if the timer starts the unit `service` by default, and `unit` is the
-/// line whose `Unit=` counts.
+/// Returns whether a kept assignment is noted. `service` is the unit that the timer starts by default, and `unit` is
+/// the line whose `Unit=` counts, if there is one.
 #[tactic(auto, unfolding(crate::specs::rules::Notes::is_noted))]
 fn is_noted(service: &str, unit: Option<u32>, assignment: &OwnedAssignment) -> bool
     ensures { result ≡ is_noted service.now unit (shown_owned_assignment assignment.now) }
@@ -253,7 +254,7 @@ fn is_at(line: Option<u32>, number: u32) -> bool
     }
 }
 
-/// Returns whether one of these assignments starts the unit by itself.
+/// Returns whether one of these assignments starts the timer's unit by itself.
 pub(crate) fn can_start(notes: &[OwnedAssignment]) -> bool
     ensures { result ≡ list_any starts (map shown_owned_assignment notes.now) }
 {
@@ -265,7 +266,7 @@ pub(crate) fn can_start(notes: &[OwnedAssignment]) -> bool
     false
 }
 
-/// Returns whether the assignment starts the unit by itself.
+/// Returns whether the assignment starts the timer's unit by itself.
 #[tactic(auto, unfolding(crate::specs::rules::Notes::starts))]
 fn starts(note: &OwnedAssignment) -> bool
     ensures { result ≡ starts (shown_owned_assignment note.now) }

@@ -16,7 +16,7 @@ pub fn is_path(target: &str) -> bool
     target.as_bytes().contains(&b'/') || target == "." || target == ".."
 }
 
-/// Returns whether a path leads to a folder. Returns `false` if the path can't be followed.
+/// Returns whether a path leads to a folder, following all links. Returns `false` if the path can't be followed.
 pub(crate) fn is_folder<T: Tree>(
     alloc: Global,
     tree: &mut T,
@@ -49,8 +49,8 @@ pub(crate) fn path_in(alloc: Global, folder: &str, name: &str) -> Result<String,
     format!(in alloc; "{folder}/{name}")
 }
 
-/// Returns what comes before `/NAME` in the path of a file in this folder: the folder's path, or nothing for `/`, since
-/// its files have paths such as `/NAME`.
+/// Returns the text that precedes `/NAME` in the path of a file in this folder. This is the folder's path, or an empty
+/// text for the folder `/`, whose files have paths such as `/NAME`.
 fn before_slash(folder: &str) -> &str
     ensures { result.now ≡ before_slash folder.now }
 {

@@ -38,7 +38,7 @@ pub struct BrokenLine {
     pub reason: BrokenReason,
 }
 
-/// What systemd reads of a file.
+/// What systemd reads in a file.
 #[derive(Drop)]
 pub(crate) struct ReadLines {
     /// The assignments in the sections that were asked for, in order.
@@ -96,8 +96,8 @@ fn without_mark(bytes: &[u8]) -> &[u8]
     }
 }
 
-/// A text that is read in place of a file, which may not be UTF-8. A comment `#` replaces each comment that isn't
-/// UTF-8. If another line isn't UTF-8, a line `?` replaces it, and is the last line of the text.
+/// A text that is read in place of a file, since the file may not be UTF-8. In the text, a comment `#` replaces each
+/// comment that isn't UTF-8. If any other line isn't UTF-8, a line `?` replaces it and is the last line of the text.
 #[derive(Drop)]
 struct ReadableText {
     text: String,
@@ -126,8 +126,8 @@ fn readable_text(alloc: Global, bytes: &[u8]) -> Result<ReadableText, AllocError
     })
 }
 
-/// Splits the bytes after the first line feed: into the first physical line and what comes after it. Without a line
-/// feed, all bytes are the first line.
+/// Splits the bytes into the first physical line, with its line feed, and the bytes after it. Without a line feed, all
+/// bytes are the first line.
 fn split_line(bytes: &[u8]) -> (&[u8], &[u8])
     ensures line { result.0.now ≡ take (position_or_len (λ b. b == 10) bytes.now + 1) bytes.now }
     ensures after { result.1.now ≡ after_first (λ b. b == 10) bytes.now }
@@ -147,8 +147,8 @@ fn length_before_feed(bytes: &[u8]) -> usize
     bytes.iter().take_while(|byte| **byte != b'\n').count()
 }
 
-/// Appends a physical line of the file to the text, or what replaces it. Returns `false` if the text is cut at this
-/// line.
+/// Appends a physical line of the file to the text, or what replaces the line there. Returns `false` if the text is cut
+/// at this line.
 fn push_line(text: &mut String, line: &[u8]) -> Result<bool, AllocError>
     ensures text { OnOk result (string_bytes text.new ≡ string_bytes text.old ++ line_in_text line.now) }
     ensures goes_on { IfOk result (λ goes_on. goes_on ≡ is_readable line.now) }
@@ -176,7 +176,7 @@ fn as_text(bytes: &[u8]) -> Option<&str>
     Some(text)
 }
 
-/// Returns whether a physical line is a comment. Its leading blanks are ignored.
+/// Returns whether a physical line is a comment, ignoring its leading blanks.
 fn is_comment(line: &[u8]) -> bool
     ensures { result ≡ is_comment (trim_start_matches is_blank_or_return line.now) }
 {
@@ -245,8 +245,8 @@ fn read_text(
     })
 }
 
-/// Returns why systemd stops at a logical line, or `None` if it doesn't. If the text is cut, its last line replaces one
-/// that isn't UTF-8.
+/// Returns why systemd stops reading at a logical line, or `None` if it doesn't stop. `is_cut` says whether the last
+/// line of the text replaces a line that isn't UTF-8.
 fn reason_in(
     alloc: Global,
     is_cut: bool,
@@ -262,8 +262,8 @@ fn reason_in(
     Ok(broken_reason(trim(line.text.as_str())))
 }
 
-/// Returns whether the text `rest` has no logical line: it is empty, or has only comments. `number` is the number of
-/// its first physical line.
+/// Returns whether no logical line is left in `rest`, the text after a line, because it is empty or has only comments.
+/// `number` is the number of its first physical line.
 fn is_last(alloc: Global, number: u32, rest: &str) -> Result<bool, AllocError>
     requires { number + length rest.now < 2 ^ 32 }
     ensures { IfOk result (λ is_last. is_last ≡ no_lines (logical_lines number rest.now)) }
@@ -272,8 +272,8 @@ fn is_last(alloc: Global, number: u32, rest: &str) -> Result<bool, AllocError>
     Ok(next.is_none())
 }
 
-/// Returns why systemd stops at a line that is valid UTF-8, or `None` if it doesn't. A line with a noncharacter is
-/// [`BrokenReason::NotUtf8`].
+/// Returns why systemd stops reading at a line that is valid UTF-8, or `None` if it doesn't stop. For a line with a
+/// noncharacter, the reason is [`BrokenReason::NotUtf8`].
 fn broken_reason(line: &str) -> Option<BrokenReason>
     ensures { result ≡ broken_reason line.now }
 {
@@ -333,7 +333,7 @@ fn is_bad_in_header(byte: u8) -> bool
     byte.is_ascii_control() || matches!(byte, b'"' | b'\'' | b'\\')
 }
 
-/// Appends the assignment in a logical line, if the line has one and a section called `name` is open. `inside` says
+/// Appends the assignment in a logical line, if the line has one and is in a section called `name`. `inside` says
 /// whether such a section is open before the line. Returns whether one is open after the line.
 fn take_line(
     alloc: Global,

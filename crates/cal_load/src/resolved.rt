@@ -32,21 +32,22 @@ const KEYS_WITH_SPECIFIERS: [&[u8]; 8] = [
 #[derive(Drop)]
 pub(crate) struct Resolved {
     pub(crate) assignments: Vec<OwnedAssignment>,
-    /// The expressions that depend on more than the timer's name, and that aren't cleared later. They aren't among the
-    /// other assignments.
+    /// The expressions that depend on more than the timer's name, and that aren't cleared later. They aren't in
+    /// `assignments`.
     pub(crate) unclear: Vec<OwnedAssignment>,
 }
 
 /// Fills in the specifiers in the assignments of the timer with this name. `name` is the name of a unit, or the path of
 /// a file that is read by itself: then the timer's own name is the part after the last slash.
 ///
-/// Assignments without specifiers are kept. In `Unit=`, a specifier that systemd doesn't know there is invalid. For
-/// assignments with specifiers:
+/// Assignments without specifiers are kept as they are, and so are those whose key isn't one of
+/// [`KEYS_WITH_SPECIFIERS`]. What becomes of any other assignment depends on its specifiers:
 ///
-/// - If the specifiers stand for the timer's name or parts of it, they are filled in.
+/// - If they stand for the timer's name or parts of it, they are filled in.
 /// - If they depend on anything else, an expression is moved to `unclear`. Any other assignment is kept as it is.
 /// - If they are invalid, or if the filled-in value is empty or still has a `%`, an expression or exception is kept as
-///   it is, and is then invalid because of its `%`. Any other assignment is dropped.
+///   it is, and is then invalid because of its `%`. Any other assignment is dropped. In `Unit=`, a specifier that
+///   systemd doesn't know there is invalid.
 pub(crate) fn resolve(
     alloc: Global,
     name: &str,
@@ -69,7 +70,8 @@ pub(crate) fn resolve(
 }
 
 impl Resolved {
-    /// Adds one more assignment of the timer with the name `own`.
+    /// Fills in the specifiers in one more assignment of the timer with the name `own`, and adds or drops the
+    /// assignment.
     #[tactic(auto, unfolding(crate::specs::rules::Resolved::resolved))]
     fn add(
         &mut self,
@@ -92,7 +94,7 @@ impl Resolved {
         }
     }
 
-    /// Adds an assignment without specifiers. It may clear the unclear expressions.
+    /// Adds an assignment without specifiers. If it clears the timer's list of expressions, `unclear` is cleared, too.
     fn add_plain(&mut self, assignment: OwnedAssignment) -> Result<(), AllocError>
         ensures assignments { OnOk result (map shown_owned_assignment self.new.assignments.items
             ≡ map shown_owned_assignment self.old.assignments.items ++ shown_owned_assignment assignment ∷ []) }
@@ -106,8 +108,8 @@ impl Resolved {
         Ok(())
     }
 
-    /// Adds an assignment that depends on more than the timer's name: an expression to `unclear`, any other one to
-    /// `assignments`.
+    /// Adds an assignment that depends on more than the timer's name: an expression to `unclear`, and any other
+    /// assignment to `assignments`.
     fn add_unclear(&mut self, assignment: OwnedAssignment) -> Result<(), AllocError>
         ensures assignments { OnOk result (map shown_owned_assignment self.new.assignments.items
             ≡ map shown_owned_assignment self.old.assignments.items ++ option_to_list (resolved_by (shown_owned_assignment assignment) Unclear)) }
@@ -134,8 +136,8 @@ fn fill_value(alloc: Global, own: &str, assignment: &OwnedAssignment) -> Result<
     fill(alloc, own, value)
 }
 
-/// Appends the assignment with `text`, its filled-in value. If this value can't be used, does what [`push_unusable`]
-/// does.
+/// Appends the assignment with `text`, its filled-in value. If this value can't be used, calls [`push_unusable`]
+/// instead.
 fn push_filled(
     resolved: &mut Vec<OwnedAssignment>,
     assignment: OwnedAssignment,
@@ -160,8 +162,8 @@ fn push_filled(
     Ok(())
 }
 
-/// Appends an assignment whose filled-in value can't be used, without a change, if it is an expression or an exception.
-/// Drops any other assignment.
+/// Handles an assignment whose filled-in value can't be used. An expression or an exception is appended as it is. Any
+/// other assignment is dropped.
 fn push_unusable(
     resolved: &mut Vec<OwnedAssignment>,
     assignment: OwnedAssignment,
@@ -183,8 +185,8 @@ fn is_entry(assignment: &OwnedAssignment) -> bool
     assignment.is_expression() || assignment.is_exception()
 }
 
-/// Returns whether `text`, a value with its specifiers filled in, can be valid. An empty value isn't, nor is one with a
-/// `%`: no expression, time span or unit name has one.
+/// Returns whether `text`, a value with its specifiers filled in, can be valid. It can't if it is empty or has a `%`:
+/// no expression, time span or unit name has one.
 fn is_usable(text: &str) -> bool
     ensures { result ≡ is_usable text.now }
 {

@@ -1,4 +1,4 @@
-//! Whether a service asks `calendar-timers due` before it is started (systemd.service(5), ExecCondition=). The stem of a
+//! Whether a service asks `calendar-timers due` before it starts (systemd.service(5), ExecCondition=). The stem of a
 //! service is its name without `.service`.
 
 ghost use Rattle.std.specs.Prelude.{◌≡◌, ◌++◌, ℕ, List, IfOk, OnOk, codes, find, map, option_map, string_bytes, length, ◌≤◌};
@@ -31,12 +31,12 @@ const SERVICE_SECTION: &str = "Service";
 /// The key of a condition.
 const CONDITION_KEY: &str = "ExecCondition";
 
-/// Returns whether the service with this stem runs `calendar-timers due` as one of its conditions: before it starts, in
-/// an `ExecCondition=` that no later empty one drops. `index` is the index of the search path, and `is_user` says
-/// whether the service is a unit of a user; then the command needs `--user`, and otherwise it must not have it.
+/// Returns whether the service with this stem runs `calendar-timers due` before it starts, in an `ExecCondition=` that
+/// no later empty `ExecCondition=` drops. `index` is the index of the search path, and `is_user` says whether the
+/// service is a unit of a user. If it is, the command needs `--user`, and otherwise it must not have it.
 ///
-/// The service has the first file of its name in the search path, or else that of its template, and its drop-ins. What
-/// can't be read of them counts as absent. Its aliases aren't followed, and quoted words of a command aren't taken apart.
+/// The service has the first file of its name in the search path, or else that of its template, and its drop-ins. Files
+/// and folders that can't be read count as absent. Aliases aren't followed, and quotes in a command aren't interpreted.
 ///
 /// Fails only if allocation fails.
 pub fn asks_due<T: Tree>(
@@ -173,7 +173,7 @@ fn push_assignments(
         ≡ map shown_owned_assignment found.old.items ++ section_read (codes "Service") 1 file.now.bytes.items) }
 {
     let bytes = file.bytes.as_slice();
-    // This can't happen: a file of a unit is never so large.
+    // This can't happen: a file of a unit that was read has at most 1,048,576 bytes.
     if bytes.len() >= u32::MAX as usize {
         return Err(AllocError);
     }
@@ -192,8 +192,8 @@ fn any_asks(is_user: bool, assignments: &[OwnedAssignment]) -> bool
     asks
 }
 
-/// Returns whether one of the conditions asks once this assignment is read, too. `asks` says it for the assignments
-/// before it.
+/// Returns whether one of the conditions that count after this assignment runs `calendar-timers due`. `asks` says
+/// whether one of the conditions before it does. A condition without a value drops all conditions.
 fn asks_after(is_user: bool, asks: bool, assignment: &OwnedAssignment) -> bool
     ensures { result ≡ asks_after is_user asks (shown_owned_assignment assignment.now) }
 {
@@ -221,7 +221,7 @@ fn command_asks(is_user: bool, command: &str) -> bool
     }
 }
 
-/// Removes the prefixes of a command.
+/// Returns the program without the prefixes of a command, such as `-` or `@`.
 #[tactic(auto, unfolding(cal_bytes::specs::rules::Trim::trim_start_matches))]
 fn without_prefixes(program: &[u8]) -> &[u8]
     ensures { result.now ≡ trim_start_matches is_prefix program.now }
@@ -243,14 +243,14 @@ fn is_prefix(byte: u8) -> bool
     b"@-:+!".contains(&byte)
 }
 
-/// Returns whether this is `calendar-timers` or a path that ends with this name.
+/// Returns whether the program is `calendar-timers` or a path that ends with `/calendar-timers`.
 fn is_our_program(program: &[u8]) -> bool
     ensures { result ≡ is_our_program program.now }
 {
     program == b"calendar-timers".as_slice() || program.ends_with(b"/calendar-timers")
 }
 
-/// Returns whether `--user` is among the arguments exactly if the units of a user are asked about.
+/// Returns whether the arguments fit the manager: they must have `--user` if `is_user`, and must not have it otherwise.
 fn fits_manager(is_user: bool, arguments: &str) -> bool
     ensures { result ≡ fits_manager is_user (words arguments.now) }
 {

@@ -34,7 +34,7 @@ enum Part {
     Specifier(u8),
 }
 
-/// Whether the bytes of a [`Draft`] are the text that its parts stand for.
+/// Whether the bytes of a [`Draft`] are what the parts of the value so far stand for.
 #[derive(Clone, Copy, Debug)]
 enum State {
     /// The bytes are this text.
@@ -45,7 +45,7 @@ enum State {
     Invalid,
 }
 
-/// What the first parts of a value stand for.
+/// The text that the first parts of a value stand for, as far as it is known.
 #[derive(Drop)]
 struct Draft {
     bytes: Vec<u8>,
@@ -53,8 +53,8 @@ struct Draft {
 }
 
 /// Fills in the specifiers in a value from the files of a timer. `name` is the timer's full name, such as
-/// `backup@home.timer`. If a specifier depends on anything else, the result is [`Filled::Unclear`], unless the value is
-/// invalid anyway.
+/// `backup@home.timer`. If a specifier depends on anything but this name, the result is [`Filled::Unclear`], unless the
+/// value is invalid anyway.
 pub(crate) fn fill(alloc: Global, name: &str, value: &str) -> Result<Filled, AllocError>
     ensures { IfOk result (λ filled. shown_filled filled ≡ filled_of name.now value.now) }
 {
@@ -67,8 +67,8 @@ pub(crate) fn fill(alloc: Global, name: &str, value: &str) -> Result<Filled, All
     Ok(draft.finish())
 }
 
-/// Fills in the specifiers in a value of `Unit=`, where systemd 252 knows fewer specifiers than [`fill`] does: the
-/// others are invalid.
+/// Fills in the specifiers in a value of `Unit=`. A specifier that systemd 252 doesn't know in `Unit=` is invalid, even
+/// if systemd knows it elsewhere.
 pub(crate) fn fill_unit(alloc: Global, name: &str, value: &str) -> Result<Filled, AllocError>
     ensures { IfOk result (λ filled. shown_filled filled ≡ unit_filled_of name.now value.now) }
 {
@@ -296,14 +296,14 @@ fn is_template(name: &str) -> bool
     matches!(unit_kind_of(without_suffix(name)), UnitKind::Template)
 }
 
-/// Returns the prefix of a name: the part before its first `@`, or, if it has no `@`, all of it but its suffix.
+/// Returns the prefix of a name: the part before its first `@`, or, if it has no `@`, the name without its suffix.
 pub(crate) fn prefix_in(name: &str) -> &str
     ensures { result.now ≡ prefix_in name.now }
 {
     stem_base(without_suffix(name))
 }
 
-/// Returns the part of a name between its first `@` and its suffix, which is empty if it has no `@`.
+/// Returns the part of a name between its first `@` and its suffix, or an empty text if the name has no `@`.
 #[tactic(auto, unfolding(cal_unit_index::specs::rules::UnitName::instance_of))]
 pub(crate) fn instance_in(name: &str) -> &str
     ensures { result.now ≡ instance_in name.now }
@@ -360,7 +360,8 @@ fn hex_value(high: u8, low: u8) -> u8
     digit_value(high) * 16 + digit_value(low)
 }
 
-/// Returns the value of a digit or a letter as a digit, and 36 for any other byte.
+/// Returns the value of a digit in any base up to 36, in which the letters are the digits from 10 on. Returns 36 for
+/// any other byte.
 fn digit_value(byte: u8) -> u8
     ensures { result ≡ digit_value byte }
 {

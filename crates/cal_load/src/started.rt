@@ -19,16 +19,17 @@ use cal_settings::{has_percent, stem_base};
 use cal_unit_index::{SearchFolder, UnitIndex, UnitKind, UnitText, unit_kind_of};
 use std::alloc::{AllocError, Global};
 
-/// The suffixes of the units that are looked for: these units need a file, and can be instances of a template.
+/// The suffixes of the units that can be missing ([`is_missing`]): these units need a file, and can be instances of a
+/// template.
 const FILE_SUFFIXES: [&[u8]; 5] = [b".service", b".socket", b".target", b".path", b".timer"];
 
-/// Returns the name of the unit that the timer `name` with these files starts: the one that the first `Unit=` with the
-/// valid name of another unit gives, or otherwise the service with the timer's own name. `name` is the name of a unit,
-/// or the path of a file that is read by itself. Returns `None` if the started unit depends on the running system, such
-/// as for `Unit=%H.service`.
+/// Returns the name of the unit that the timer `name` with these files starts: the unit named by the first `Unit=`
+/// whose value is the valid name of another unit, or otherwise the service with the timer's own name. `name` is the
+/// name of a unit, or the path of a file that is read by itself. Returns `None` if the started unit depends on the
+/// running system, as with `Unit=%H.service`.
 ///
-/// If `Unit=` names a template, the timer starts the instance of it that has the timer's own instance or, if the timer
-/// isn't an instance, its name without the suffix.
+/// If `Unit=` names a template, the timer starts an instance of the template: the one with the timer's own instance
+/// name or, if the timer isn't an instance, with the timer's name without the suffix.
 ///
 /// Fails if allocation fails. Also fails if the files are too large for their line numbers to fit into 32 bits; no
 /// timer is loaded from such files.
@@ -44,7 +45,7 @@ pub fn started_unit(
     started_by(alloc, own, first_unit(own, kept.as_slice()))
 }
 
-/// Returns the assignment whose `Unit=` counts: the first that doesn't name the timer `own` itself.
+/// Returns the `Unit=` that counts: the first that doesn't name the timer `own` itself.
 fn first_unit<'k>(own: &str, kept: &'k [OwnedAssignment]) -> Option<&'k OwnedAssignment>
     ensures { option_map (λ unit. shown_owned_assignment unit.now) result
         ≡ find (names_unit own.now) (map shown_owned_assignment kept.now) }
@@ -95,7 +96,7 @@ fn completed(alloc: Global, own: &str, unit: &str) -> Result<String, AllocError>
     Ok(format!(in alloc; "{base}@{argument}{suffix}")?)
 }
 
-/// Returns whether nothing is between the first `@` of a unit's name and its suffix.
+/// Returns whether a unit's name is that of a template: directly after its first `@` comes one of [`FILE_SUFFIXES`].
 #[tactic(auto, unfolding(crate::specs::rules::StartedUnit::is_template_name))]
 fn is_template_name(unit: &str) -> bool
     ensures { result ≡ is_template_name unit.now }
@@ -113,8 +114,8 @@ fn after_at(unit: &str) -> &str
     }
 }
 
-/// Returns the instance of a template that the timer `own` starts if its `Unit=` names the template: the timer's own
-/// instance, or its name without the suffix if it isn't an instance.
+/// Returns the instance name of the unit that the timer `own` starts if its `Unit=` names a template: the timer's own
+/// instance name, or its name without the suffix if it isn't an instance.
 fn argument_of(own: &str) -> &str
     ensures { result.now ≡ argument_of own.now }
 {
@@ -125,8 +126,9 @@ fn argument_of(own: &str) -> &str
     }
 }
 
-/// Returns whether no folder of the search path has the unit or, if the unit is an instance, its template. Units such
-/// as mounts and slices can exist without a file, so these are never missing. `index` is the index of the search path.
+/// Returns whether no folder of the search path has a file for the unit or, if the unit is an instance, for its
+/// template. Units such as mounts and slices can exist without a file, so these are never missing. `index` is the index
+/// of the search path.
 ///
 /// Fails only if allocation fails.
 pub fn is_missing(alloc: Global, index: &UnitIndex, unit: &str) -> Result<bool, AllocError>
@@ -147,7 +149,8 @@ fn is_missing_in(alloc: Global, folders: &[SearchFolder], unit: &str) -> Result<
     }
 }
 
-/// Returns the suffix of a unit that exists only if it has a file, and `None` for other units.
+/// Returns the unit's suffix if it is one of [`FILE_SUFFIXES`], so that the unit exists only if it has a file. Returns
+/// `None` for other units.
 fn file_suffix(unit: &str) -> Option<&'static str>
     ensures { option_map (λ suffix. suffix.now) result ≡ find (ends_with nat_eq unit.now) file_suffixes }
 {

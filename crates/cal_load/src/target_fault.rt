@@ -16,13 +16,13 @@ pub enum TargetReason {
     NotFound,
     /// The name is that of a template, which isn't a unit.
     Template,
-    /// More than 7 links lead from unit to unit.
+    /// The name is an alias, and more than 7 aliases lead from one to the next.
     TooManyAliases,
     /// The file, folder or link at this path can't be used, for this reason.
     Path(String, Reason),
     /// systemd stops reading the timer's own file, which is at this path, at this line. So it doesn't load the timer.
     Broken(String, BrokenLine),
-    /// Nothing starts the timer's unit: its files have neither a calendar expression that can be used nor another
+    /// No setting starts the timer's unit: its files have neither a calendar expression that can be used nor another
     /// setting that starts the unit. The values are the timer's name, as in [`crate::LoadedTimer`], and its files, with
     /// the lines in them that are ignored.
     NothingToDo(String, TimerFiles),
@@ -33,20 +33,20 @@ pub enum TargetReason {
     ExpressionZone(String, FileReason),
 }
 
-/// A timer, an expression, a file or a folder that can't be loaded.
+/// The error that a timer, an expression, a file or a folder can't be loaded.
 #[derive(Debug, Drop)]
 pub struct TargetFault {
-    /// The unit or expression as it was given, or the path without slashes at its end. If a folder was given, this can
-    /// also be the path of a file in it. Without a target, it is the name of a unit. For a drop-in that can't be read,
-    /// or a folder of drop-ins or of links that start units, it is the path of this drop-in or folder; timers are
-    /// loaded without it.
+    /// What the error is about: a unit or expression as it was given, or the path that was given, without slashes at
+    /// its end. If this path is a folder, the target can also be the path of a file in it. If no target was given, it
+    /// is the name of a unit. If a drop-in, a folder of drop-ins, or a folder of links that start units can't be read,
+    /// it is the path of this drop-in or folder, and timers are loaded without it.
     pub target: String,
     pub reason: TargetReason,
 }
 
 impl TargetFault {
-    /// Returns whether the target is a timer that was found and read, but fails to load: its own file has a line at
-    /// which systemd stops reading it, or nothing starts its unit.
+    /// Returns whether the target is a timer that was found and read, but fails to load: systemd stops reading its own
+    /// file at some line, or no setting starts its unit.
     pub fn fails_to_load(&self) -> bool
         ensures { result ≡ fails_to_load self.now.reason }
     {

@@ -1,4 +1,4 @@
-//! What the files of a unit say, with line numbers that continue from file to file.
+//! The contents of a unit's files, with line numbers that continue from file to file.
 
 ghost use Rattle.std.specs.Prelude.{◌≡◌, ◌+◌, ◌∷◌, ◌++◌, [], List, IfOk, OnOk, length, map};
 ghost use Rattle.std.specs.Result.{IfErr};
@@ -16,7 +16,7 @@ use cal_read::OwnedAssignment;
 use cal_unit_index::{Reason, UnitText};
 use std::alloc::{AllocError, Global};
 
-/// What the files of a unit say, before specifiers are filled in.
+/// The contents of a unit's files, before specifiers are filled in.
 #[derive(Drop)]
 pub(crate) struct ReadFiles {
     /// The number of each file's first line. The first line of the first file has the number 1, and the first line of
@@ -24,7 +24,7 @@ pub(crate) struct ReadFiles {
     pub(crate) first_lines: Vec<u32>,
     /// The assignments in the sections `Timer`.
     pub(crate) assignments: Vec<OwnedAssignment>,
-    /// For each file, the line at which systemd stops reading it.
+    /// For each file, the line at which systemd stops reading it, or `None` if systemd reads the whole file.
     pub(crate) broken: Vec<Option<BrokenLine>>,
 }
 

@@ -11,8 +11,8 @@ use crate::zones::UnusableZone;
 use cal_unit_index::UnitText;
 use std::alloc::Global;
 
-/// The files of a timer, the lines with expressions and exceptions that are ignored, and the lines at which systemd stops
-/// reading.
+/// The files of a timer, the lines with expressions and exceptions that are ignored, and the lines at which systemd
+/// stops reading.
 #[derive(Debug, Drop)]
 pub struct TimerFiles {
     /// The files that were read: first the timer's own file, and then its drop-ins.
@@ -31,7 +31,7 @@ pub struct TimerFiles {
 }
 
 impl TimerFiles {
-    /// Returns a value without files.
+    /// Creates a `TimerFiles` without files.
     pub(crate) fn new(alloc: Global) -> TimerFiles
         ensures ignored { result.ignored.items ≡ [] }
         ensures unusable { result.unusable_zones.items ≡ [] }

@@ -23,9 +23,9 @@ use cal_unit_index::{UnitFault, UnitIndex, unit_stem};
 use std::alloc::{AllocError, Global};
 use std::collections::BTreeSet;
 
-/// Loads the timers that the targets stand for, in their order. Without a target, these are the timers that other units
-/// start, each once, sorted by name; if `is_all`, also all others in the search path, and [`Loaded::started`] says
-/// which are started.
+/// Loads the timers that the targets stand for, in the order of the targets. Without a target, loads the timers that
+/// other units start and, if `is_all`, also all others in the search path, each once, sorted by name. If all are
+/// loaded, [`Loaded::started`] says which timers other units start.
 ///
 /// `index` is the index of the search path. It has no effect if all targets are paths. A target is
 ///
@@ -35,11 +35,13 @@ use std::collections::BTreeSet;
 /// - otherwise the name of a timer, with or without `.timer`: its file is read, and then its drop-ins, also those of
 ///   its aliases (systemd.unit(5)).
 ///
-/// Templates in folders are left out, except for their instances that are files of the folder, or that are linked in a
+/// Templates in folders are left out. Their instances are loaded if they are files of the folder, or are linked in a
 /// folder `NAME.wants` or `NAME.requires` in it. A template can be loaded by its path, but its name as a target is an
-/// error. What can't be loaded is in [`Loaded::faults`], and units that are masked are in [`Loaded::masked`]; all the
-/// others are still loaded. Without a target, a folder `NAME.wants` or `NAME.requires` that can't be read is an error,
-/// too, and so is anything that can't be read of a folder that is a target. Fails only if allocation fails.
+/// error.
+///
+/// What can't be loaded is in [`Loaded::faults`], and masked units are in [`Loaded::masked`]; everything else is still
+/// loaded. If a target is a folder, everything in it that can't be read is an error, too. If there is no target, so is
+/// each folder `NAME.wants` or `NAME.requires` that can't be read. Fails only if allocation fails.
 pub fn load_timers<T: Tree>(
     alloc: Global,
     tree: &mut T,
@@ -68,7 +70,7 @@ pub fn load_timers<T: Tree>(
     Ok(loaded)
 }
 
-/// Loads the timers that other units start, or, if `is_all`, all timers in the search path.
+/// Loads the timers that other units start and, if `is_all`, also all others in the search path.
 fn load_all<T: Tree>(
     alloc: Global,
     tree: &mut T,
@@ -306,7 +308,7 @@ fn push_unread(alloc: Global, loaded: &mut Loaded, unread: Vec<UnitFault>) -> Re
     Ok(())
 }
 
-/// Adds an error which says that this path can't be read.
+/// Adds the error that this path can't be read.
 fn push_unread_path(alloc: Global, loaded: &mut Loaded, fault: &UnitFault) -> Result<(), AllocError>
     ensures more { OnOk result (IsMore (λ machine path. ⊤)
         (λ machine path. UnreadPath (shown_fault fault.now) ∷ []) loaded.old loaded.new) }

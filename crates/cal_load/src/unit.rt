@@ -33,7 +33,7 @@ use cal_unit_index::{
 };
 use std::alloc::{AllocError, Global};
 
-/// What was read of the files of a timer.
+/// What was read in the files of a timer.
 #[derive(Drop)]
 struct ParsedFiles {
     first_lines: Vec<u32>,
@@ -96,7 +96,7 @@ fn read_found<T: Tree>(
     Ok(LoadedTarget::Timer(timer_from_files(alloc, tree, name, files)?))
 }
 
-/// Reads the file at a path. Returns `None` if it masks a unit: if it is empty or a device. Fails with
+/// Reads the file at a path. Returns `None` if the file masks a unit, because it is empty or a device. Fails with
 /// [`TargetReason::NotFound`] if nothing is there.
 fn read_own<T: Tree>(
     alloc: Global,
@@ -192,8 +192,8 @@ pub(crate) fn read_timer_file<T: Tree>(
     Ok(LoadedTarget::Timer(timer_from_files(alloc, tree, name, files)?))
 }
 
-/// Parses the files of a timer, and loads the zones that they name. Fails if systemd doesn't read the timer's own
-/// file to the end, if a file is too large, or if nothing starts the timer's unit.
+/// Parses the files of a timer, and loads the zones that they name. Fails if systemd doesn't read the timer's own file
+/// to the end, if a file is too large, or if no setting starts the timer's unit.
 fn timer_from_files<T: Tree>(
     alloc: Global,
     tree: &mut T,

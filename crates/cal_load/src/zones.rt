@@ -43,8 +43,8 @@ pub(crate) struct CalendarZones {
 /// The folder of the zone files, from which [`load_zones`] reads them.
 const ZONE_FOLDER: &str = "/usr/share/zoneinfo/";
 
-/// Loads the zones that a calendar names, each by itself. As in systemd, a line whose zone can't be used is ignored: it
-/// is removed from the calendar, and the others stay. Fails only if allocation fails.
+/// Loads the zones that a calendar names, one by one. As in systemd, a line whose zone can't be used is ignored: it is
+/// removed from the calendar, and the other lines stay. Fails only if allocation fails.
 pub(crate) fn load_calendar_zones<T: Tree>(
     alloc: Global,
     tree: &mut T,
@@ -117,7 +117,7 @@ fn try_zone<T: Tree>(
     }
 }
 
-/// Removes the lines whose zone isn't in the table.
+/// Removes the lines that name a zone which isn't in the table.
 pub(crate) fn retain_zoned(lines: &mut Vec<TimerLine>, zones: &ZoneTable)
     ensures { map shown lines.new.items ≡ filter (has_zone zones.now) (map shown lines.old.items) }
 {
@@ -133,8 +133,8 @@ fn has_zone(zones: &ZoneTable, line: &TimerLine) -> bool
     }
 }
 
-/// Removes the lines whose zone is in the table after all: it could be loaded for a later line, because its file
-/// changed in between.
+/// Removes the lines whose zone is in the table after all: if its file was replaced in the meantime, the zone may have
+/// been loaded for a later line.
 fn retain_unloaded(unusable: &mut Vec<UnusableZone>, zones: &ZoneTable)
     ensures { unusable.new.items ≡ filter (λ line. not (is_loaded zones.now line)) unusable.old.items }
 {

@@ -1,4 +1,4 @@
--- What recording an answer changes.
+-- Lemmas on what changes when an answer is recorded.
 use Rattle.std.proofs.Common.{◌≡◌, ◌⊎◌, ◌∙◌, Bool, List, None, Option, Ordering, Some, true, ap, inl, inr, subst, sym, unwrap_or}
 use Rattle.std.proofs.lemmas.Bool.{cases_Bool}
 use Rattle.std.proofs.lemmas.Map.Lookups.{CmpEqualImpliesEq}

@@ -1,9 +1,9 @@
 //! Following paths through all their links (path_resolution(7), symlink(7)).
 //!
-//! The system isn't asked to follow links, for two reasons. If a machine's files are in a folder of the system
-//! (`--root`), that folder stands for the machine's root, but the system would look for the absolute target of a link
-//! in the system's own root. And the system doesn't tell which folder a path ends up in. So each part of a path is
-//! looked at, and a link's target is followed part by part. A [`crate::Recorder`] looks at each part only once,
+//! The system isn't asked to follow links, for two reasons. First, if a machine's files are in a folder of the system
+//! (`--root`), this folder stands for the machine's root, but the system would follow the absolute target of a link
+//! from the system's own root. Second, the system doesn't tell which folder a path ends up in. So each part of a path
+//! is examined, and a link's target is followed part by part. A [`crate::Recorder`] examines each part only once,
 //! whichever paths lead through it.
 
 ghost use Rattle.std.specs.Prelude.{◌≡◌, map, string_bytes};
@@ -17,9 +17,9 @@ use std::alloc::Global;
 /// Whether a link at the end of a path is followed.
 #[derive(Clone, Copy, PartialEq, Eq, Debug)]
 pub enum Last {
-    /// It is followed, like all links on the way.
+    /// The link is followed, like all links on the way.
     Followed,
-    /// It is kept: the path leads to the link itself.
+    /// The link isn't followed: the path leads to the link itself.
     Kept,
 }
 
@@ -47,15 +47,16 @@ pub enum Content {
     Text(Vec<u8>),
 }
 
-/// The maximum number of steps along a path. A path with links that lead in a circle always needs more.
+/// The maximum number of steps along a path, one for each of its parts and each part of a link's target. A path with
+/// links that lead in a circle always needs more.
 const MAX_STEPS: usize = 1_000;
 
 /// Finds the place to which a path leads. All links on the way are followed; `last` says whether a link at the end is
-/// followed, too. Below something that isn't a folder, nothing is found. A relative path starts at the folder in which
-/// the program runs.
+/// followed, too. If the path leads through something that isn't a folder, nothing is at the place. A relative path
+/// starts at the folder in which the program runs.
 ///
-/// Fails with [`TreeFault::Unreadable`] if a part of the path can't be looked at, or if the path has more than 1,000
-/// parts, including the parts of the links' targets. For such a long path, the reason is [`Unreadable::Failed`]. Fails
+/// Fails with [`TreeFault::Unreadable`] if a part of the path can't be examined, or if the path has more than 1,000
+/// parts, including the parts of the links' targets; in the second case, the reason is [`Unreadable::Failed`]. Fails
 /// with [`TreeFault::NoMemory`] if allocation fails.
 pub fn find_place<T: Tree>(
     alloc: Global,

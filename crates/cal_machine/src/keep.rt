@@ -8,8 +8,8 @@ use crate::tree::{TreeFault, Unreadable};
 use std::alloc::{AllocError, Global};
 use std::collections::BTreeMap;
 
-/// Returns what a call said about the machine, which may be an error. Fails if memory ran out: that says nothing about
-/// the machine, and so can't be recorded.
+/// Returns the answer of a call, which may be an error. Fails if memory ran out, since that says nothing about the
+/// machine and can't be recorded.
 pub(crate) fn said<V: Drop>(
     outcome: Result<V, TreeFault>,
 ) -> Result<Result<V, Unreadable>, AllocError>

@@ -10,8 +10,8 @@ use std::alloc::Global;
 /// The calls by which a machine is read. Nothing is promised about what they return: the machine may change, so the
 /// same call may return something else each time.
 ///
-/// `gives` is true of every answer that a call returns; running out of memory isn't an answer. Code that is generic
-/// over `Raw` knows nothing else of `gives`. So if it proves `gives` of an answer, a call returned that answer.
+/// `gives` is true of every answer that a call returns; running out of memory isn't an answer. This is all that code
+/// generic over `Raw` knows of `gives`. So if such code proves `gives` of an answer, a call has returned this answer.
 ///
 /// Paths have the form that [`crate::Tree`] explains.
 pub trait Raw {

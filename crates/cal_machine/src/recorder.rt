@@ -14,9 +14,9 @@ use std::alloc::Global;
 use std::collections::BTreeMap;
 
 /// A [`Tree`] that asks each question of `raw` once and records the answer, even if it is an error. From then on, it
-/// gives the recorded answer. Running out of memory isn't an answer, and is never recorded.
+/// returns the recorded answer. Running out of memory isn't an answer, and is never recorded.
 ///
-/// So what it returns is the same as on a machine that doesn't change, and each answer is one that `raw` gave.
+/// So its answers are those of a machine that doesn't change, and each of them is one that `raw` gave.
 #[derive(Drop)]
 pub struct Recorder<R: Raw> {
     raw: R,
@@ -28,7 +28,7 @@ pub struct Recorder<R: Raw> {
 }
 
 impl<R: Raw> Recorder<R> {
-    /// Creates a recorder that has asked nothing yet, so that every machine agrees with what is recorded.
+    /// Creates a recorder without recorded answers, with which every machine agrees.
     pub fn new(alloc: Global, raw: R) -> Recorder<R>
         ensures asks { result.raw ≡ raw }
         ensures agrees { (machine : Machine) → ⟦<Recorder<R> as Tree>⟧.shows result machine }

@@ -12,7 +12,7 @@ use std::alloc::{AllocError, Global};
 /// One step along a path.
 #[derive(Debug, Drop)]
 pub(crate) enum Step {
-    /// The path goes on in this folder, whose own path has no links, with these parts.
+    /// The path goes on from this folder, whose own path has no links, with these parts.
     On(String, Vec<String>),
     /// The path ends here.
     Ended(Place),
@@ -63,8 +63,8 @@ fn is_followed(last: Last, rest: &[String]) -> bool
     }
 }
 
-/// Returns the place of a path that can't go on from this entry; `rest` are the parts that are left. If there are any,
-/// nothing is at the place.
+/// Returns the place of a path that ends at this entry, or can't go on from it. `rest` are the parts that are left; if
+/// there are any, nothing is at the place.
 fn place_at(mut path: String, rest: &[String], entry: Entry) -> Result<Place, AllocError>
     ensures { IfOk result (λ place. shown_place place
         ≡ place_at (string_bytes path) (map string_bytes rest.now) (shown_entry entry)) }
@@ -98,7 +98,7 @@ fn push_part(path: &mut String, part: &str) -> Result<(), AllocError>
     Ok(())
 }
 
-/// Returns whether a part leads nowhere else: it is empty or `.`.
+/// Returns whether a part of a path stays in the same folder, because it is empty or `.`.
 pub(crate) fn stays(part: &str) -> bool
     ensures { result ≡ stays part.now }
 {
@@ -130,8 +130,8 @@ pub(crate) fn above(alloc: Global, folder: &str) -> Result<String, AllocError>
     String::from_str(alloc, before_last(folder))
 }
 
-/// Returns whether a path is relative to the folder in which the program runs, and leads to this folder or to one above
-/// it.
+/// Returns whether the path of a folder is `.`, the folder in which the program runs, or leads from there to a folder
+/// above it.
 fn is_outside(folder: &str) -> bool
     ensures { result ≡ is_outside folder.now }
 {

@@ -6,11 +6,11 @@ ghost use Rattle.cal_machine.specs.declared.tree.TreeFault.TheVariants.{NoMemory
 
 use std::alloc::{AllocError, AllocFailed, Global};
 
-/// The maximum number of bytes that are read of a file. It is one more than the size limit of unit files and zone
-/// files, so whether a file is too large can be seen from the bytes that were read.
+/// The maximum number of bytes that are read of a file. This is one more than the size limit of unit files and zone
+/// files, so the number of bytes that were read shows whether a file is too large.
 pub const FILE_BYTES: usize = 1_048_577;
 
-/// Why something can't be read. This is a fact about the machine, and asking again gives the same error.
+/// Why something can't be read. This is a fact about the machine: trying again gives the same error.
 #[derive(Clone, Copy, PartialEq, Eq, Debug)]
 pub enum Unreadable {
     /// Reading fails, for example because it isn't permitted.
@@ -81,8 +81,8 @@ pub struct Names {
 /// is a machine, fixed in time, that agrees with everything that they have returned (`some_machine`). `shows` is true
 /// of such machines, and each further call can only rule out some of them (`grows`).
 ///
-/// Errors are facts of the machine, too: if a method fails with [`TreeFault::Unreadable`], each machine that is shown
-/// has this error there. Only [`TreeFault::NoMemory`] says nothing about the machine.
+/// An error is a fact about the machine, too: if a method fails with [`TreeFault::Unreadable`], every machine for which
+/// `shows` is true has this error at this place. Only [`TreeFault::NoMemory`] says nothing about the machine.
 pub trait Tree {
     /// Whether all that the methods have returned so far agrees with this description of a machine.
     ghost shows: { Self → Machine → Type 0 };

@@ -4,8 +4,8 @@ use cal_elapse::Rising;
 use cal_zone::Instant;
 use std::marker::Model;
 
-/// A source of numbers that are all instants, such as elapses. It returns each as an [`Instant`]. A contract sees the
-/// numbers that it has yet to return.
+/// A wrapper around a source of numbers that are all instants, such as elapses. It returns each number as an
+/// [`Instant`]. Contracts see the numbers that it has yet to return.
 #[derive(Drop)]
 pub struct Instants<S: Rising> {
     source: S,

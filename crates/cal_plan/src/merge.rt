@@ -50,8 +50,8 @@ pub fn merge_of<'a>(
 /// Adds the elapses of expressions to a merge. The zones of all expressions must be known, and the merge must not have
 /// returned an elapse yet.
 ///
-/// Skips an expression that an exception covers: the merge would suppress all its elapses anyway, but one by one, which
-/// could take very long.
+/// Skips an expression that an exception covers. The merge would suppress all its elapses anyway, but would have to
+/// find each of them first, which could take very long.
 fn add_expressions<'a>(
     alloc: Global,
     setting: Setting<'a>,

@@ -1,5 +1,5 @@
--- Lemmas which say that counting the entries of the lists of expressions and exceptions gives the same errors as
--- keeping the lists, and that the first of all errors is the error that `first_fault` returns.
+-- Counting the entries of the lists of expressions and exceptions finds the same errors as keeping the lists, and the
+-- first of all errors is the one that `first_fault` returns.
 use Rattle.std.proofs.Common.{◌≡◌, ◌+◌, ◌<◌, ℕ, Bool, true, false, List, [], ◌∷◌, ◌++◌, filter, refl, subst, sym, ap, ◌∙◌, arith, append_assoc, append-nil, length, length-append, map, take, Option, Some, None, Result, drop, get_or, drop-cons, add-one}
 use Rattle.std.specs.Prelude.{nat_le, min}
 use Rattle.std.specs.List.{after_last, slice_get}
@@ -83,7 +83,7 @@ files_by read counts before k (file ∷ files) h =
     ∙ ap (λ rest. map (in_file k) (all_faults read before (assignments_at file)) ++ rest)
     (files_by read (counts_over counts (assignments_at file)) (before ++ assignments_at file) (k + 1) files (counts_over_are counts before (assignments_at file) h))
 
--- for all texts together, counting gives the same errors as keeping the lists
+-- for all texts together, counting the entries finds the same errors as keeping the lists
 pub files_counted : {E : Type 0} (read : List ℕ → Result E SpecFault) (files : List NumberedText) → counted_files read (record { expressions = 0; exceptions = 0 }) 0 files ≡ faults_of read [] 0 files
 files_counted read files = files_by read (record { expressions = 0; exceptions = 0 }) [] 0 files counts_none
 

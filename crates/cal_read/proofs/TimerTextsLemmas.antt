@@ -45,7 +45,7 @@ resumed_stops read files i fault h =
     ∙ resumed_append read empty_lists (assignments_of (take i files)) (assignments_of (drop i files))
     ∙ ap (λ now. with_lists now (λ lists. resumed read lists (assignments_of (drop i files)))) h
 
--- a single text whose first line has the number 1 has the same result as a timer file with this text
+-- reading a single text whose first line has the number 1 has the same result as reading a timer file with this text
 pub one_text : {E : Type 0} (read : List ℕ → Result E SpecFault) (file : NumberedText) → file.first ≡ 1 → lists_of read (assignments_of (file ∷ [])) ≡ timer_of read file.text.now
 unfolding timer_of
 one_text read file first = rw (append-nil (assignments_at file), first) (ap (λ _. timer_of read file.text.now) first)

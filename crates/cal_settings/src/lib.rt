@@ -1,5 +1,5 @@
-//! The settings of a timer besides its expressions and exceptions: of which kind they are, and which values systemd
-//! accepts.
+//! The settings of a timer other than its expressions and exceptions: what kinds of settings there are, and which
+//! values systemd accepts for them.
 #![tactic(auto)]
 
 mod setting_kind;

@@ -9,7 +9,7 @@ ghost use Rattle.cal_settings.specs.rules.Settings.{is_taken_as, keys_of, kind_o
 use crate::values::{has_percent, is_no, is_span, is_unit_name, is_yes};
 use cal_bytes::is_among;
 
-/// A kind of setting in the section `Timer`. Calendar expressions and exceptions are of no kind.
+/// A kind of setting in the section `Timer`. `OnCalendar=` and `X-ExceptOnCalendar=` don't belong to any of the kinds.
 #[derive(Clone, Copy, PartialEq, Eq, Debug)]
 pub enum SettingKind {
     /// How long after an event, such as boot, the unit starts: `OnBootSec=` and the other monotonic timers. The value
@@ -63,7 +63,7 @@ impl SettingKind {
     }
 }
 
-/// Returns the kind of the settings with this key, or `None` if they are of no kind.
+/// Returns the kind of the settings with this key, or `None` if they don't belong to any kind.
 #[tactic(auto, unfolding(crate::specs::rules::Settings::kind_of))]
 pub fn kind_of(key: &str) -> Option<SettingKind>
     ensures { result ≡ kind_of key.now }
@@ -83,9 +83,9 @@ fn find_kind(kinds: &[SettingKind], key: &[u8]) -> Option<SettingKind>
     None
 }
 
-/// Returns whether systemd accepts the value for a setting of this kind; it ignores an assignment with any other value.
-/// If a value of a monotonic timer or of `Unit=` has a `%`, what it stands for may depend on the running system, and
-/// the value is taken as valid.
+/// Returns whether systemd accepts the value for a setting of this kind. systemd ignores an assignment with a value
+/// that it doesn't accept. If a value of a monotonic timer or of `Unit=` has a `%`, what the value stands for may
+/// depend on the running system, and it is taken as valid.
 pub fn is_taken_as(kind: SettingKind, value: &str) -> bool
     ensures { result ≡ is_taken_as (Some kind) value.now }
 {

@@ -36,7 +36,7 @@ const UNIT_SUFFIXES: [&[u8]; 11] = [
 /// The maximum length of a unit's name with its suffix, in bytes.
 const MAX_NAME: usize = 255;
 
-/// Returns whether the value has a `%`, with which every specifier begins (systemd.unit(5), Specifiers).
+/// Returns whether the value has a `%`. Every specifier begins with a `%` (systemd.unit(5), Specifiers).
 pub fn has_percent(value: &str) -> bool
     ensures { result ≡ has_percent value.now }
 {

@@ -30,7 +30,7 @@ large_step = inl (
   refl,
 )
 
--- in the seconds: the end of the range `1..5.` is followed by a point, as if a fraction came next
+-- in the seconds: a point follows the range `1..5`, and is reported as the start of a fraction
 fraction : HasPartFault Second (codes "1..5.") FractionalSecond
 fraction = inr (inl (
   (
@@ -49,14 +49,14 @@ fraction = inr (inl (
   refl,
 ))
 
--- `99..60` runs backwards in the seconds, but both numbers are also too large for them
+-- in the seconds: `99..60` runs backwards, but both numbers are above 59, and this is reported instead
 outside : HasValueFault Second (record { start = 99; end = Some 60; step = None }) OutOfField
 outside within = let high = within.0.1 in absurd (omega (arith, high))
 
--- `2012..2001/0`: the range is checked before the step
+-- in the year: `2012..2001/0` runs backwards and has a step of zero, and the range is reported
 backward : HasValueFault Year (record { start = 2012; end = Some 2001; step = Some 0 }) BackwardRange
 backward = (((omega arith, omega arith), (omega arith, omega arith)), λ forward. omega (arith, forward))
 
--- 4,097 spaces: the text has no words, but its length is reported
+-- 4,097 spaces have no words, but it is the length of the text that is reported
 too_long : HasFault (replicate 4097 32) TextTooLong
 too_long = inl (let size = length-replicate {A = ℕ} 4097 32 in omega (arith, size), refl)

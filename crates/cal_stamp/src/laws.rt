@@ -38,8 +38,8 @@ pub fn one_civil_time()
         → IsCivilTime at ws c → civil_time at ws ≡ Ok c }
 {}
 
-/// The error `NoSuchDate` occurs only for a date that is written out. A day that is computed from the present always
-/// exists.
+/// The error `NoSuchDate` occurs only for a date that is written out. A day that is computed from the present, such as
+/// `tomorrow`, never has this error.
 pub fn only_written_dates_are_none()
     ensures { (now : ℤ) (at : Setting) (text : List ℕ) → moment_in now at text ≡ Err NoSuchDate
         → (ws : List (List ℕ)) × (form_of text ≡ civil ws) × HasNoSuchDate ws }

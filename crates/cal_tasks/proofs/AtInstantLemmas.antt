@@ -44,7 +44,7 @@ place_if_member e i = (
   λ p. is_member-Has (places e) i ((Has-places e i).1 p),
 )
 
--- the masks of an expression and its zone give the meaning of the expression in this zone
+-- if masks match the same values as the fields of an expression, they have the same matches and places in the same zone
 pub same_timed : (masks : Masks) (zone : Zone) (fields : Fields) (tz : TimeZone) → sets_in masks ≡ sets_of fields → zone_of zone ≡ tz → timed_by masks zone ≡ timed fields tz
 unfolding timed_by timed
 same_timed masks zone fields tz sets is = λ j. record { matches = matches (sets j); place = λ local. place_of (is j) (pos local) }
@@ -70,7 +70,8 @@ any_more P Q false more one_is more_is = (
   λ h. elim h [ inl p ↦ absurd (false≢true (one_is.1 p)) | inr q ↦ more_is.1 q ],
 )
 
--- at least one expression elapses at the instant, by the test, if and only if the instant is an elapse of one of them
+-- the test `line_elapses_at` succeeds for at least one expression if and only if the instant is an elapse of one of the
+-- expressions
 pub any_if_elapse : (at : Setting) (secs : ℤ) (list : List (TimerLine Fields)) → (list_any (line_elapses_at at secs) list ≡ true) ↔ IsElapse (map (timed_entry at) list) secs
 any_if_elapse at secs [] = (λ h. absurd (false≢true h), λ n. absurd n)
 any_if_elapse at secs (line ∷ list) =
@@ -100,7 +101,7 @@ unfolding IsStrictlySortedBy
 rises_with b ys h above = (all_from (λ (y : ℤ). int_cmp b y ≡ Less) ys (λ y m. sym (int_cmp_is b y Less (above y m))), h)
 
 -- Let `ys` be the list of the numbers after `b` that satisfy `Holds`. With `b` in front of it if `b` satisfies `Holds`,
--- it is the list of the numbers after `b - 1` that do.
+-- `ys` becomes the list of the numbers after `b - 1` that satisfy `Holds`.
 with_base : (Holds : ℤ → Type 0) (b : ℤ) (here : Bool) (ys : List ℤ) → (here ≡ true) ↔ Holds b → AreAbove Holds b ys → AreAbove Holds (b -ℤ pos 1) (cond here (b ∷ []) [] ++ ys)
 with_base Holds b true ys is all = record {
   rises = rises_with b ys all.rises (λ i m. ((all.members i).0 m).0);

@@ -29,6 +29,6 @@ merge_of_two xs ys rises other_rises empty some both none one all =
     ∙ ap (λ (l : List ℤ). without l (union (ys ∷ []))) (union_one xs rises)
     ∙ ap (λ (l : List ℤ). without xs l) (union_one ys other_rises)
 
--- if all numbers of `xs` are instants, so are those that aren't in `ys`
+-- if all numbers of `xs` are instants, so are the numbers of `xs` that aren't in `ys`
 pub instants_left : (xs ys : List ℤ) → AreInstants xs → AreInstants (without xs ys)
 instants_left xs ys all i there = all i ((Has-without xs ys i).0 there).0

@@ -14,7 +14,7 @@ use Rattle.cal_tasks.specs.rules.DueRun.{IsDueRun, IsExcepted, run_seen}
 use Rattle.cal_tasks.specs.rules.LastElapse.{IsLastElapse, timed_exceptions, timed_expressions}
 use Rattle.cal_tasks.specs.rules.LoadedElapses.{elapses_in}
 
--- there is only one last elapse
+-- a timer has at most one last elapse
 same_last : (at : Clocked) (timer : LoadedTimer) (exceptions : List Timed) (one other : ℤ) → IsLastElapse at timer exceptions one → IsLastElapse at timer exceptions other → one ≡ other
 same_last at timer exceptions one other h k =
     let up = h.last other k.elapsed in
@@ -38,7 +38,8 @@ one_run at timer NotElapsed NotElapsed h k = refl
 before : (i : ℤ) → (i -ℤ pos 1) <ℤ i
 before i = omega (arith, ints)
 
--- the timer elapses at an instant if and only if one of its expressions elapses then, and none of its exceptions
+-- the timer elapses at an instant if one of its expressions elapses then, and none of its exceptions; `here_elapses` is
+-- the converse
 elapses_here : (at : Clocked) (timer : LoadedTimer) (secs : ℤ) → IsElapse (timed_expressions at timer) secs → (IsExcepted at timer secs → ⊥) → Has (elapses_in at (secs -ℤ pos 1) timer) secs
 unfolding elapses_of_lists
 elapses_here at timer secs is is_not =
@@ -55,7 +56,7 @@ due_elapses at timer instant h = elapses_here at timer instant.secs h.0.elapsed.
 pub excepted_doesnt : (at : Clocked) (timer : LoadedTimer) (instant : Instant) → IsDueRun at timer (Excepted instant) → Has (elapses_in at (instant.secs -ℤ pos 1) timer) instant.secs → ⊥
 excepted_doesnt at timer instant h is = (here_elapses at timer instant.secs is).1 h.1
 
--- if one of the expressions elapses at the present, the present is the last elapse
+-- if one of the expressions elapses at the present, the present is the last elapse of the expressions
 last_is_now : (at : Clocked) (timer : LoadedTimer) → IsElapse (timed_expressions at timer) at.now.secs → IsLastElapse at timer [] at.now.secs
 last_is_now at timer is = record {
   elapsed = record { instant = at.now.in_range; past = omega (arith, ints); is_elapse = (is, λ n. n) };
@@ -67,7 +68,7 @@ due_at_an_elapse at timer run h is =
     let here = here_elapses at timer at.now.secs h in
     one_run at timer run (Due at.now) is (last_is_now at timer here.0, here.1)
 
--- if no exception elapses at the last elapse of the expressions, it is the last elapse of the timer
+-- if no exception elapses at the last elapse of the expressions, this is also the last elapse of the timer
 pub due_is_last : (at : Clocked) (timer : LoadedTimer) (instant : Instant) → IsDueRun at timer (Due instant) → IsLastElapse at timer (timed_exceptions at timer) instant.secs
 due_is_last at timer instant h = record {
   elapsed = record { instant = h.0.elapsed.instant; past = h.0.elapsed.past; is_elapse = (h.0.elapsed.is_elapse.0, h.1) };

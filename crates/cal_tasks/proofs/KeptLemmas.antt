@@ -35,7 +35,8 @@ keeps_replaced notes note i is lower many n (inl (k, below, at)) =
       | inr other ↦ inl (k, rw length-set below, get_or-set_other notes i k note n other ∙ at)
     ]
 
--- if there are enough notes, and `note` is earlier than the latest one, `Keeps` holds after it replaces the latest one
+-- if there are enough notes, and `note` is earlier than the latest one, `Keeps` holds after `note` replaces the latest
+-- one
 pub replaced : (notes : List ClockNote) (note : ClockNote) (i : ℕ) → max_kept ≤ length notes → (AreEnough max_kept notes note.local → ⊥) → IsLatest notes i → Keeps notes note (set notes i note)
 replaced notes note i many few is =
     let late : (d : ClockNote) → (get_or notes i d).local ≤ℤ note.local → ⊥
@@ -63,7 +64,8 @@ still_latest notes i index d₀ more le is = record {
       (λ e. let here = local_at notes i e d₀ more in let last = local_at notes index d d₀ is.inside in omega (arith, ints));
 }
 
--- if the note at `i` isn't earlier than the one at `index`, none of the notes before `i + 1` is later than it
+-- if no note before the one at `i` is later than the one at `index`, and the one at `i` isn't earlier than the one at
+-- `index`, then `IsLatestBefore` holds for `i + 1` and `i`
 pub next_latest : (notes : List ClockNote) (i index : ℕ) (d₀ : ClockNote) → i < length notes → (get_or notes index d₀).local ≤ℤ (get_or notes i d₀).local → IsLatestBefore notes i index → IsLatestBefore notes (i + 1) i
 next_latest notes i index d₀ more le is = record {
   inside = more;

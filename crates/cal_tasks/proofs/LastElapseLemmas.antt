@@ -23,17 +23,18 @@ use Rattle.cal_tasks.specs.declared.clocked.Clocked.{Clocked}
 use Rattle.cal_tasks.specs.rules.LastElapse.{IsLastElapse, IsLastOf, timed_expressions, timed_lines}
 use Rattle.cal_tasks.specs.rules.LoadedElapses.{setting_for}
 
--- the number is at most the last one that was taken
+-- a number has been taken, and `x` is at most the last number taken
 abbrev pub IsUpTo : Option ℤ → ℤ → Type 0
 IsUpTo None x = ⊥
 IsUpTo (Some last) x = x ≤ℤ last
 
--- the last number that was taken is one of `xs`, and at most `until`
+-- the last number that was taken, if any, is one of `xs`, and at most `until`
 abbrev pub IsTaken : ℤ → List ℤ → Option ℤ → Type 0
 IsTaken until xs None = Unit {0}
 IsTaken until xs (Some last) = Has xs last × (last ≤ℤ until)
 
--- the numbers of `xs` that aren't left were taken, from the least on, and `last` is the last of them
+-- `left` are the numbers of `xs` that have yet to be taken. The others were taken in increasing order, and `last` is
+-- the last one taken.
 pub record IsSearchedUpTo (until : ℤ) (xs left : List ℤ) (last : Option ℤ) : Type 0 where
   pub passed : (x : ℤ) → Has xs x → Has left x ⊎ IsUpTo last x
   pub inside : (x : ℤ) → Has left x → Has xs x
@@ -57,7 +58,7 @@ searched_head until xs last x ys rises low s =
       taken = (s.inside x (inl refl), low);
     }
 
--- if the first number that is left is at most `until`, it is taken, and the search goes on
+-- if the first of the numbers that are left is at most `until` and is taken, `IsSearchedUpTo` still holds
 pub search_goes_on : (until : ℤ) (xs left : List ℤ) (last : Option ℤ) (x : ℤ) → slice_get left 0 ≡ Some x → IsStrictlySortedBy int_cmp left → x ≤ℤ until
     → IsSearchedUpTo until xs left last → IsSearchedUpTo until xs (drop 1 left) (Some x)
 search_goes_on until xs left last x first rises low s =
@@ -65,7 +66,7 @@ search_goes_on until xs left last x first rises low s =
     searched_head until xs last x (drop 1 left) (subst (λ (l : List ℤ). IsStrictlySortedBy int_cmp l) split rises) low
     (subst (λ (l : List ℤ). IsSearchedUpTo until xs l last) split s)
 
--- if all numbers that are left are above `until`, the search has found the last number up to it
+-- if all numbers that are left are above `until`, the last number taken is the last one up to `until`
 search_ends : (until : ℤ) (xs left : List ℤ) (last : Option ℤ) → ((y : ℤ) → Has left y → until <ℤ y) → IsSearchedUpTo until xs left last → IsLastUntil until xs last
 search_ends until xs left None late s = λ y h. elim (s.passed y h) [ inl n ↦ late y n | inr u ↦ absurd u ]
 search_ends until xs left (Some last) late s = (
@@ -85,14 +86,14 @@ search_ends-late until xs left last x first rises late s =
     search_ends until xs left last
     (λ y h. late_head until x (drop 1 left) (subst (λ (l : List ℤ). IsStrictlySortedBy int_cmp l) split rises) late y (subst (λ (l : List ℤ). Has l y) split h)) s
 
--- a number is in the list of the elapses after `base` if and only if it is after `base` and an elapse
+-- a number is in the list of the elapses after `base` if and only if it is an elapse and after `base`
 members_after : (at : Setting) (base : ℤ) (list except : List (TimerLine Fields)) (i : ℤ)
     → Has (elapses_of_lists at base (record { expressions = list; exceptions = except })) i ↔ ((base <ℤ i) × IsElapseExcept (map (timed_entry at) list) (map (timed_entry at) except) i)
 unfolding elapses_of_lists
 members_after at base list except i = (AreElapses-elapses_except (map (timed_entry at) list) (map (timed_entry at) except) base).members i
 
--- the last of the elapses after `base` up to the present is the last elapse; if there is none, there is none after
--- `base`
+-- In the list of the elapses after `base`, the last element up to the present is the last elapse. If there is no such
+-- element, there is no elapse after `base` up to the present.
 last_after_base : (at : Clocked) (timer : LoadedTimer) (except : List (TimerLine Fields)) (base : ℤ) (last : Option ℤ) → pos 0 ≤ℤ base → IsInstant at.now.secs
     → IsLastUntil at.now.secs (elapses_of_lists (setting_for at timer) base (record { expressions = expressions_in timer.calendar; exceptions = except })) last
     → IsLastAfter at timer (timed_lines at timer except) base last
@@ -124,7 +125,8 @@ last_after_here at timer except base last here list xs low now same these is fou
     = is ∙ (λ j. elapses_of_lists (same j) base (record { expressions = these j; exceptions = except })) in
     last_after_base at timer except base last low now (subst (λ (l : List ℤ). IsLastUntil at.now.secs l last) all found)
 
--- if there is no elapse after the first instant, the last elapse is at this instant, or there is none
+-- Suppose that there is no elapse after 0, the first of all instants. If 0 is an elapse, it is the last elapse;
+-- otherwise there is none (`none_at_first`).
 pub last_at_first : (at : Clocked) (timer : LoadedTimer) (exceptions : List Timed) (first : ℤ) → first ≡ pos 0 → IsInstant at.now.secs → IsLastAfter at timer exceptions first None
     → IsElapseExcept (timed_expressions at timer) exceptions first → IsLastElapse at timer exceptions first
 last_at_first at timer exceptions first zero now none is =
@@ -146,7 +148,7 @@ none_at_first at timer exceptions first zero none is_not =
     λ secs p. by_lt_z first secs (λ lt. none secs lt p)
     (λ ge. is_not (subst (λ (i : ℤ). IsElapseExcept (timed_expressions at timer) exceptions i) (at_or_below_first first secs zero p.instant.0 ge) p.is_elapse))
 
--- the test whether one of the exceptions elapses at an instant, with other names
+-- `any_if_elapse`, with other names for the setting and the lines
 pub any_here : (at here : Setting) (secs : ℤ) (these list : List (TimerLine Fields)) (any : Bool) → here ≡ at → these ≡ list
     → any ≡ list_any (line_elapses_at here secs) these → (any ≡ true) ↔ IsElapse (map (timed_entry at) list) secs
 any_here at here secs these list any same is tested =
@@ -154,7 +156,7 @@ any_here at here secs these list any same is tested =
     let found = any_if_elapse at secs list in
     (λ h. found.0 (sym all ∙ h), λ e. all ∙ found.1 e)
 
--- the test whether the timer elapses at an instant, with other names for the setting and the expressions
+-- `at_if_elapse`, with other names for the setting and the expressions
 pub elapses_here : (at here : Setting) (secs : ℤ) (these list except : List (TimerLine Fields)) (elapses : Bool) → here ≡ at → these ≡ list
     → elapses ≡ elapses_at here secs (record { expressions = these; exceptions = except })
     → (elapses ≡ true) ↔ IsElapseExcept (map (timed_entry at) list) (map (timed_entry at) except) secs

@@ -27,7 +27,8 @@ use Rattle.cal_tasks.specs.rules.ClockNotes.{AreNotesOf, IsCovered, IsNoteAmong,
 use Rattle.cal_tasks.specs.computed.KeptNotes.{AreInOneZone, IsNoteAfter, KeepsAllOf, max_kept}
 use Rattle.cal_tasks.specs.declared.clock_note.ClockNote.{ClockNote}
 
--- the element at an index, seen as contracts see it
+-- if `line` is at index `i` of `lines`, then `shown line`, which is what contracts see of it, is at index `i` of `map
+-- shown lines`
 seen_at : (lines : List declared_line.TimerLine) (i : ℕ) (line : declared_line.TimerLine) → i < length lines → line ≡ get_or lines i line → slice_get (map shown lines) i ≡ Some (shown line)
 seen_at lines i line h is = slice_get-map shown lines i ∙ ap (option_map shown) (slice_get-get_or lines i line h ∙ ap Some (sym is))
 
@@ -45,7 +46,7 @@ line_among lines i line h is =
     let below : i < length (map shown lines) = rw (length-map lines shown) h in
     (i, below, get_or-map shown lines i line (shown line) h ∙ ap shown (sym is))
 
--- each note is about one of the expressions, if this was so before notes about the expression at `i` were added
+-- if each note is about one of the expressions, this is still true after notes about the expression at `i` are added
 pub notes_of_line : (at : Setting) (now : ℤ) (lines : List declared_line.TimerLine) (i zone : ℕ) (line : declared_line.TimerLine) (tz : TimeZone) (old new : List ClockNote) → i < length lines → line ≡ get_or lines i line
     → zone_for at (shown line).expr.zone ≡ Some tz → AreInOneZone lines zone i → KeepsAllOf tz (sets_of (shown line).expr) now zone old new → All (IsNoteAmong at now (map shown lines)) old
     → All (IsNoteAmong at now (map shown lines)) new
@@ -68,7 +69,8 @@ notes_of_line at now lines i zone line tz old new h is zoned same keeps before =
       }
     ]) new keeps.sound
 
--- no note about the expressions up to the one at `i` is missing, if none about the expressions before it was missing
+-- if no note about the expressions before `i` was missing, then none about the expressions up to `i` is missing after
+-- the notes about the expression at `i` were added
 pub all_of_line : (at : Setting) (now : ℤ) (lines : List declared_line.TimerLine) (i zone : ℕ) (line : declared_line.TimerLine) (tz : TimeZone) (old new : List ClockNote) → i < length lines → line ≡ get_or lines i line
     → zone_for at (shown line).expr.zone ≡ Some tz → AreInOneZone lines zone i → KeepsAllOf tz (sets_of (shown line).expr) now zone old new → AllWithin (AreNotesOf at now (map shown lines) max_kept old) (map shown lines) 0 i
     → AllWithin (AreNotesOf at now (map shown lines) max_kept new) (map shown lines) 0 (i + 1)
@@ -108,7 +110,7 @@ not_lower x y Greater ties m e = omega (arith, ints)
 by_local_total : IsTotalOrder by_local
 by_local_total = then_total (on_total (λ (note : ClockNote). note.local) int_cmp_total) (on_total (λ (note : ClockNote). note.zone) nat_cmp_total)
 
--- the first notes of a sorted list cover what the list covers
+-- the first `max_notes` notes of a sorted list cover what the whole list covers
 first_cover : (notes : List ClockNote) (has_more : Bool) (n : ClockNote) → IsSorted by_local notes → (max_notes < length notes → has_more ≡ true) → IsCovered max_kept notes n
     → IsCovered (limit_if has_more) (take max_notes notes) n
 first_cover notes has_more n sorted more (inr enough) =
@@ -140,7 +142,8 @@ permuted old new n same (inr enough) =
     let many = enough.many in
     inr (record { many = omega arith; none_later = All-permutation (λ (kept : ClockNote). kept.local ≤ℤ n.local) old new same enough.none_later })
 
--- no note about an expression is missing after sorting the notes and leaving out all but the first
+-- if no note about an expression is missing, none is missing after the notes are sorted and all but the first
+-- `max_notes` are left out
 pub all_sorted : (at : Setting) (now : ℤ) (lines list : List (TimerLine Fields)) (old new : List ClockNote) (has_more : Bool) → IsPermutation old new → IsSorted by_local new → (max_notes < length new → has_more ≡ true)
     → All (AreNotesOf at now lines max_kept old) list → All (AreNotesOf at now lines (limit_if has_more) (take max_notes new)) list
 all_sorted at now lines list old new has_more same sorted more all =

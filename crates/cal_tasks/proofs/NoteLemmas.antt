@@ -25,7 +25,7 @@ in_gap_or_fold tz change local from to Repeated Repeated first end order is = le
 in_gap_or_fold tz change local from to Skipped Repeated first end order is = let low = is.from in let high = is.to in absurd (omega (arith, ints))
 in_gap_or_fold tz change local from to Repeated Skipped first end order is = let low = is.from in let high = is.to in absurd (omega (arith, ints))
 
--- what a change skips or repeats lies in its gap or fold
+-- a local time that a change skips or repeats is in the gap or fold of the change
 in_shift : (tz : TimeZone) (change : ℤ) (shift : ClockShift) (local : ℤ) (kind : ClockChange) → IsShiftOf tz change shift → IsChangedBy tz change local kind
     → (kind ≡ shift.kind) × (shift.from ≤ℤ local) × (local <ℤ shift.to)
 in_shift tz change shift local kind is changed = in_gap_or_fold tz change local shift.from shift.to shift.kind kind is.first is.end is.order changed
@@ -72,7 +72,7 @@ none_kept tz sets change zone shift next old is low = record {
   keeps = λ n was. was;
 }
 
--- if the next match is past the gap or fold, the notes cover all its matching local times
+-- if the next match is past the gap or fold, the notes cover all matching local times that the change skips or repeats
 pub all_kept : (tz : TimeZone) (sets : Sets) (change : ℤ) (zone : ℕ) (shift : ClockShift) (next local : ℤ) (old new : List ClockNote) → IsShiftOf tz change shift → IsFirstLocal (matches sets) next (Some local)
     → shift.to ≤ℤ local → KeepsAllBefore tz sets change zone next old new → KeepsAllBefore tz sets change zone (pos seconds_in_all) old new
 all_kept tz sets change zone shift next local old new is first past kept =
@@ -82,7 +82,7 @@ all_kept tz sets change zone shift next local old new is first past kept =
     let to = inside.2 in
     absurd (none_between sets next local l first low (omega (arith, ints)) noted.is_match))
 
--- if there are enough earlier notes, the notes cover all later local times, too
+-- if there are enough notes up to the next match, the notes cover all later local times, too
 pub enough_kept : (tz : TimeZone) (sets : Sets) (change : ℤ) (zone : ℕ) (next local : ℤ) (old new : List ClockNote) → IsFirstLocal (matches sets) next (Some local)
     → AreEnough max_kept new local → KeepsAllBefore tz sets change zone next old new → KeepsAllBefore tz sets change zone (pos seconds_in_all) old new
 enough_kept tz sets change zone next local old new first enough kept =
@@ -95,7 +95,7 @@ pub none_left : (tz : TimeZone) (sets : Sets) (change : ℤ) (zone : ℕ) (next 
 none_left tz sets change zone next old new none kept =
     extended tz sets change zone next (pos seconds_in_all) old new kept (λ l kind low high noted. absurd (none_after sets next l none low noted.is_match))
 
--- if the next match isn't skipped or repeated, no note about it is needed
+-- if the change neither skips nor repeats the next match, no note about this match is needed
 pub not_changed : (tz : TimeZone) (sets : Sets) (change : ℤ) (zone : ℕ) (shift : ClockShift) (next local : ℤ) (old new : List ClockNote) → IsShiftOf tz change shift → IsFirstLocal (matches sets) next (Some local)
     → (IsChangedBy tz change local shift.kind → ⊥) → KeepsAllBefore tz sets change zone next old new → KeepsAllBefore tz sets change zone (local +ℤ pos 1) old new
 not_changed tz sets change zone shift next local old new is first unchanged kept =
@@ -106,7 +106,7 @@ not_changed tz sets change zone shift next local old new is first unchanged kept
     let inside = in_shift tz change shift l kind is noted.changed in
     absurd (unchanged (rw (same, inside.0) at noted.changed))))
 
--- if the next match is skipped or repeated, the note about it is kept
+-- if the change skips or repeats the next match, and the note about it is kept, the notes cover this match, too
 pub one_kept : (tz : TimeZone) (sets : Sets) (change : ℤ) (zone : ℕ) (shift : ClockShift) (next local : ℤ) (old mid new : List ClockNote) → IsShiftOf tz change shift → IsFirstLocal (matches sets) next (Some local)
     → IsLocalSecond local → IsChangedBy tz change local shift.kind → Keeps mid (record { local = local; change = shift.kind; zone = zone }) new → KeepsAllBefore tz sets change zone next old mid
     → KeepsAllBefore tz sets change zone (local +ℤ pos 1) old new
@@ -120,7 +120,7 @@ one_kept tz sets change zone shift next local old mid new is first inside change
     let inside = in_shift tz change shift l kind is noted.changed in
     rw (same, inside.0) keeps.covered))
 
--- all local times that an expression matches are covered, since each of them is before the end of 2199
+-- if the notes cover all matching local times up to the end of 2199, they cover all, since no local time is later
 covered_all : (tz : TimeZone) (sets : Sets) (change : ℤ) (zone : ℕ) (old new : List ClockNote) → KeepsAllBefore tz sets change zone (pos seconds_in_all) old new
     → (local : ℤ) (kind : ClockChange) → IsNoted tz sets change local kind → IsCovered max_kept new (record { local = local; change = kind; zone = zone })
 covered_all tz sets change zone old new is local kind noted =
@@ -135,7 +135,7 @@ sound_after tz sets now change zone old new next is =
     All-weaker (λ (note : ClockNote). Contains old note ⊎ IsNoteOf tz sets change zone note) Q
     (λ note at. elim at as (λ _. Q note) [ inl before ↦ inl before | inr of ↦ inr (record { change = change; is_change = next.0; later = next.1; of = of }) ]) new is.sound
 
--- if the zone has only one next change, the notes about it are all notes
+-- if the zone has only one more change, no note about the zone is missing once the notes about this change are kept
 pub one_change : (tz : TimeZone) (sets : Sets) (now first : ℤ) (zone : ℕ) (old new : List ClockNote) → IsNextChange tz now (Some first) → IsNextChange tz first None
     → KeepsAllBefore tz sets first zone (pos seconds_in_all) old new → KeepsAllOf tz sets now zone old new
 one_change tz sets now first zone old new next none is =
@@ -148,7 +148,7 @@ one_change tz sets now first zone old new next none is =
       keeps = is.keeps;
     }
 
--- the notes about the next two changes are all notes
+-- if the zone has two more changes, no note about them is missing once the notes about each of them are kept
 pub two_changes : (tz : TimeZone) (sets : Sets) (now first second : ℤ) (zone : ℕ) (old mid new : List ClockNote) → IsNextChange tz now (Some first) → IsNextChange tz first (Some second)
     → KeepsAllBefore tz sets first zone (pos seconds_in_all) old mid → KeepsAllBefore tz sets second zone (pos seconds_in_all) mid new → KeepsAllOf tz sets now zone old new
 two_changes tz sets now first second zone old mid new next then is last =

@@ -2,7 +2,8 @@
 use Rattle.std.proofs.Common.{◌≡◌, ℕ, suc, ◌+◌, ◌-◌, ◌<◌, ◌++◌, List, [], ◌∷◌, Some, ℤ, slice_get, take, drop, sym, ap, ◌∙◌, append_assoc, arith}
 use Rattle.cal_bytes.proofs.General.{list-first}
 
--- `whole` is the numbers taken so far, followed by those still to be taken; taking one more number doesn't change it
+-- `whole` consists of the numbers taken so far and those still to be taken; taking one more number doesn't change
+-- `whole`
 pub taken_more : (first new whole rest left : List ℤ) (count i : ℕ) (x : ℤ) → i < count → slice_get rest 0 ≡ Some x → left ≡ drop 1 rest → first ++ take (count - i) rest ≡ whole → new ≡ first ++ x ∷ []
     → new ++ take (count - (i + 1)) left ≡ whole
 taken_more first new whole rest left count i x more given left_is was now =

@@ -12,19 +12,20 @@ use Rattle.cal_zone.specs.rules.Zone.{local_shown_at}
 use Rattle.cal_tasks.specs.rules.ZoneChange.{HasSameOffset, IsNextChange, IsZoneChange, days_after, max_days, utc_offset}
 use Rattle.cal_zone.specs.rules.Instant.{IsInstant}
 
--- the UTC offset that the clock shows is the zone's
+-- the UTC offset that `civil_of` returns for a second is the zone's UTC offset at this second
 pub civil_of-offset : (tz : TimeZone) (second : ℤ) (shown : Civil) → shown ≡ civil_of tz second → shown.offset ≡ utc_offset tz second
 unfolding civil_of
 civil_of-offset tz second shown e = ap (λ (s : Civil). s.offset) e
 
--- what the clock shows is at most 25:59:59 from Unix time
+-- the local second that the clock shows differs from the second of Unix time by at most 25:59:59
 pub shown_near : (tz : TimeZone) (second : ℤ) → IsOffsetSeconds (local_shown_at tz second -ℤ second)
 unfolding local_shown_at
 shown_near tz second =
     let range = offset_at-in_range tz (nanos_of_seconds second) in
     (omega (arith, signed_arith, range.0), omega (arith, signed_arith, range.1))
 
--- what the clock shows at `second`, with other names for the instant and for the local second
+-- if the clock shows `shown` at `second`, it shows `local` at `other`, provided that `other` is `second` and `local` is
+-- `shown`
 pub shown_same : (tz : TimeZone) (second other shown local : ℤ) → local_shown_at tz second ≡ shown → other ≡ second → shown ≡ local → local_shown_at tz other ≡ local
 shown_same tz second other shown local is same now = ap (local_shown_at tz) same ∙ is ∙ now
 
@@ -69,14 +70,15 @@ none_inside tz after from days out low same = λ k few instant.
       | inr until ↦ same.same k until
     ]
 
--- if the UTC offset at `low` isn't the one a second later, the later second is a change of the zone
+-- if the UTC offset a second after `low` differs from the one at `low`, the zone changes at the later second
 pub change_after : (tz : TimeZone) (low change : ℤ) (width : ℕ) (offset : ℤ) → change ≡ low +ℤ pos width → width ≡ 1 → IsInstant change → utc_offset tz low ≡ offset
     → (utc_offset tz (low +ℤ pos width) ≡ offset → ⊥) → IsZoneChange tz change
 change_after tz low change width offset is one instant same other =
     let before : (change -ℤ pos 1) ≡ low = omega (arith, ints) in
     record { instant = instant; differs = λ e. other (ap (utc_offset tz) (sym is) ∙ e ∙ ap (utc_offset tz) before ∙ same) }
 
--- the UTC offset a day after `from` isn't the one at `from`, since it isn't the one at `after`
+-- if the UTC offset a day after `from` isn't the one at `after`, it isn't the one at `from`, since `after` and `from`
+-- have the same UTC offset
 pub differs_next_day : (tz : TimeZone) (after from to : ℤ) (days : ℕ) (offset now : ℤ) → now ≡ utc_offset tz to → to ≡ from +ℤ pos 86_400 → offset ≡ utc_offset tz after → (now ≡ offset → ⊥)
     → IsSameUntil tz after from days → utc_offset tz (from +ℤ pos 86_400) ≡ utc_offset tz from → ⊥
 differs_next_day tz after from to days offset now shown is was other same e =

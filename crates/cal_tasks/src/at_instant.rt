@@ -94,7 +94,8 @@ fn is_place(masks: &Masks, zone: Zone<'_>, instant: Instant) -> bool
     }
 }
 
-/// Returns whether `masks` match the local second `local`: whether it is the first match from `local` on.
+/// Returns whether `masks` match the local second `local`: they do if the first match at or after `local` is `local`
+/// itself.
 #[tactic(auto, using(cal_civil::proofs::LocalLemmas::local_arith))]
 fn is_match(masks: &Masks, local: i64) -> bool
     requires { IsLocalSecond local }

@@ -57,7 +57,7 @@ fn timer_at(timers: &[LoadedTimer], index: usize) -> Option<&LoadedTimer>
     timers.get(index)
 }
 
-/// Appends an elapse of this timer. Without a timer, appends nothing.
+/// Appends the elapse of `timer` at `instant`. If `timer` is `None`, appends nothing.
 fn push_named<'a>(
     rows: &mut Vec<UnitElapse<'a>>,
     instant: Instant,

@@ -1,4 +1,4 @@
-//! Local times that a clock change skips or repeats.
+//! Notes about local times that a clock change skips or repeats.
 
 use cal_load::LoadedTimer;
 
@@ -17,8 +17,8 @@ pub struct ClockNote {
     /// The local time, in seconds since 1970-01-01 00:00:00 on the clock of the zone.
     pub local: i64,
     pub change: ClockChange,
-    /// The index, among the timer's expressions, of the first expression that names the same zone as the expression
-    /// that matches. The local time is on the clock of this zone.
+    /// Identifies the zone on whose clock the local time is. This is the index of the timer's first expression that
+    /// names the same zone as the expression that matches the local time.
     pub zone: usize,
 }
 

@@ -12,7 +12,7 @@ use crate::clock_note::ClockChange;
 use crate::shown::local_shown;
 use cal_zone::{Instant, Zone, place};
 
-/// The gap or the fold of a change of a zone, as a range of local seconds.
+/// The gap or the fold that one change of a zone makes, as a range of local seconds.
 #[derive(Clone, Copy)]
 pub(crate) struct ClockShift {
     /// The first local second of the gap or fold.
@@ -45,7 +45,7 @@ pub(crate) fn shift_of(zone: Zone<'_>, change: Instant) -> ClockShift
     }
 }
 
-/// Returns what the clock would show at a change if it went on as before.
+/// Returns the local second that the clock would show at a change if its UTC offset didn't change then.
 fn shown_unchanged(zone: Zone<'_>, change: Instant) -> i64
     requires { pos 0 <ℤ change.secs }
     ensures value { result ≡ shown_unchanged (zone_of zone.entry) change.secs }
@@ -57,8 +57,8 @@ fn shown_unchanged(zone: Zone<'_>, change: Instant) -> i64
     local_shown(zone, before) + 1
 }
 
-/// Returns whether the change skips or repeats `local`, by the kind of `shift`. `shift` must be the gap or fold of
-/// this change, and `local` must be in it.
+/// Returns whether the change skips `local` (if `shift.kind` is `Skipped`) or repeats it (if it is `Repeated`). `shift`
+/// must be the gap or fold of this change, and `local` must be in it.
 pub(crate) fn is_changed(zone: Zone<'_>, change: Instant, shift: ClockShift, local: i64) -> bool
     requires shift { IsShiftOf (zone_of zone) change.secs shift }
     requires local { IsLocalSecond local }
@@ -72,8 +72,8 @@ pub(crate) fn is_changed(zone: Zone<'_>, change: Instant, shift: ClockShift, loc
     }
 }
 
-/// Returns whether the clock shows `local` at its place, before the change, and again at or after the change. `from` is
-/// what the clock shows at the change.
+/// Returns whether the clock shows `local` twice: at the place of `local`, before the change, and again at or after the
+/// change. `from` is what the clock shows at the change.
 fn is_repeated(zone: Zone<'_>, change: Instant, from: i64, local: i64) -> bool
     requires from { from ≡ local_shown_at (zone_of zone) change.secs }
     requires local { IsLocalSecond local }

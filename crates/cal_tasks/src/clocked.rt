@@ -2,7 +2,7 @@
 
 use cal_zone::{Instant, Zone};
 
-/// The present and the local zone. The elapses of a timer depend on both.
+/// The present and the local zone, on which the elapses of a timer depend.
 #[derive(Clone, Copy)]
 pub struct Clocked<'a> {
     /// The present, in whole seconds of Unix time. The next elapses are those after it.

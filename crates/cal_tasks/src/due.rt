@@ -1,5 +1,5 @@
-//! Whether the run of a service that its timer starts now is due: whether no exception elapses at the last elapse of
-//! the timer's expressions (systemd.timer(5), OnCalendar=).
+//! Whether the run of a service that its timer starts now is due. The run is due if no exception elapses at the last
+//! elapse of the timer's expressions (systemd.timer(5), OnCalendar=).
 
 ghost use Rattle.std.specs.Prelude.{◌≢◌, MatchResult};
 ghost use Rattle.cal_plan.specs.rules.ZoneFor.{IsUnzoned};
@@ -16,8 +16,8 @@ use cal_plan::PlanFault;
 use cal_zone::Instant;
 use std::alloc::Global;
 
-/// Whether the run that starts now is due. The instants are the last ones, at or before the present, at which one of
-/// the timer's expressions elapses.
+/// Whether the run that starts now is due. The instant is the last one, at or before the present, at which an
+/// expression of the timer elapses.
 #[derive(Clone, Copy)]
 pub enum DueRun {
     /// The run is due: no exception elapses at this instant.

@@ -53,7 +53,7 @@ pub(crate) fn elapses_in<'a>(
     Ok(Instants::new(merge))
 }
 
-/// Returns the present, the local zone, and the zones that were loaded for a timer.
+/// Returns the [`Setting`] of a timer: the present, the local zone, and the zones that were loaded for the timer.
 pub(crate) fn setting_for<'a>(at: Clocked<'a>, timer: &'a LoadedTimer) -> Setting<'a>
     ensures seen { setting_seen result ≡ setting_for at.entry timer.now }
     ensures now { result.now ≡ at.entry.now }

@@ -29,7 +29,7 @@ use std::alloc::{AllocError, Global};
 /// The number of elapses that an exception is compared with. An exception that suppresses none of them is reported.
 const MAX_ELAPSES: u32 = 10_000;
 
-/// Why a line of a timer is reported as having no effect.
+/// Why an expression or an exception of a timer is reported: it has no effect, or systemd 252 fails for it.
 #[derive(Clone, Copy, PartialEq, Eq, Debug)]
 pub enum IdleKind {
     /// The expression doesn't elapse after the present.
@@ -41,7 +41,7 @@ pub enum IdleKind {
     SuppressesNothing,
 }
 
-/// An expression or an exception that is reported as having no effect.
+/// An expression or an exception that has no effect, or for which systemd 252 fails.
 #[derive(Clone, Copy, PartialEq, Eq, Debug)]
 pub struct IdleLine {
     /// The number of the line with the expression or exception. [`cal_load::TimerFiles::position`] finds the file.
@@ -49,9 +49,10 @@ pub struct IdleLine {
     pub kind: IdleKind,
 }
 
-/// Returns the lines of a timer that have no effect: first the expressions that don't elapse after the present, then
-/// those for which systemd 252 fails at a midnight that clocks skip, and then the exceptions that suppress nothing.
-/// For an exception, only the next 10,000 elapses that the timer would have without its exceptions are checked.
+/// Returns the lines of a timer that have no effect, or for which systemd 252 fails: first the expressions that don't
+/// elapse after the present, then those for which systemd 252 fails at a midnight that clocks skip, and then the
+/// exceptions that suppress nothing. For an exception, only the next 10,000 elapses that the timer would have without
+/// its exceptions are checked.
 ///
 /// Fails with [`PlanFault::NoSuchZone`] if an expression or an exception names a zone that wasn't loaded, and with
 /// [`PlanFault::NoMemory`] if allocation fails.
@@ -72,8 +73,8 @@ pub fn idle_lines(
     Ok(found)
 }
 
-/// Returns the lines that have no effect, as [`idle_lines`] does. Every zone that a line names must be known: it is
-/// `UTC`, or it was loaded.
+/// Returns the lines that [`idle_lines`] returns. Every zone that a line names must be known: it is `UTC`, or it was
+/// loaded.
 fn idle_among(
     alloc: Global,
     setting: Setting<'_>,
@@ -88,7 +89,7 @@ fn idle_among(
     let mut found = Vec::new(alloc);
     add_never(alloc, &mut found, setting, lines)?;
     add_stopping(&mut found, setting, lines)?;
-    // Most timers have no exceptions, and 10,000 elapses take their time.
+    // Computing 10,000 elapses takes time, and most timers have no exceptions to compare them with.
     if exceptions.is_empty() {
         return Ok(found);
     }

@@ -1,4 +1,4 @@
-//! The notes that are kept while they are collected: the earliest ones.
+//! Keeping only the earliest notes while notes are collected.
 
 ghost use Rattle.std.specs.Prelude.{◌≡◌, ◌↔◌, ◌<◌, ◌≤ℤ◌, IsTrue, OnOk, length, slice_index_or};
 ghost use Rattle.std.specs.List.{All, Contains};
@@ -14,8 +14,8 @@ pub(crate) const MAX_NOTES: usize = 16;
 /// The number of notes that are kept: one more than are returned, to know whether there are more.
 const MAX_KEPT: usize = MAX_NOTES + 1;
 
-/// Adds a note, unless it's already there, or there are 17 notes and none of them is later. If there are 17 notes and
-/// one of them is later, the note replaces the latest one.
+/// Adds a note, unless it is there already. There are at most 17 notes: if there are 17 already, the note replaces the
+/// latest one, or isn't added if none of them is about a later local time.
 pub(crate) fn keep(notes: &mut Vec<ClockNote>, note: ClockNote) -> Result<(), AllocError>
     ensures { OnOk result (Keeps notes.old.items note notes.new.items) }
 {

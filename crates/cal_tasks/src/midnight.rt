@@ -18,8 +18,8 @@ use cal_load::LoadedTimer;
 use cal_timer::TimerLine;
 use cal_zone::{Instant, Setting, Zone, place};
 
-/// The number of nights that are examined: those of three years. Summer time starts once a year; the other two leave
-/// room for a zone that suspends it.
+/// The number of nights that are examined: those of three years. Summer time starts once a year, so one year would do
+/// but for zones that suspend it for a year or two.
 const MAX_NIGHTS: u32 = 1_096;
 
 /// The number of days of the years 1970 to 2199.
@@ -34,7 +34,7 @@ pub fn stops_at_midnight(at: Clocked<'_>, timer: &LoadedTimer, line: &TimerLine)
     stops_in(setting_for(at, timer), line)
 }
 
-/// Returns whether systemd 252 fails for the expression on `line`, as [`stops_at_midnight`] does.
+/// Returns what [`stops_at_midnight`] returns for the expression on `line`, with the zones of `setting`.
 #[tactic(auto, unfolding(crate::specs::rules::Midnight::stops_at_midnight))]
 pub(crate) fn stops_in(setting: Setting<'_>, line: &TimerLine) -> bool
     ensures { result ≡ stops_at_midnight (setting_seen setting.entry) setting.entry.now.secs (shown line.now) }

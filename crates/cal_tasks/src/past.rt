@@ -15,8 +15,8 @@ use cal_timer::TimerLine;
 use cal_zone::Instant;
 use std::alloc::Global;
 
-/// The lengths, in seconds, of the ranges up to the present that are searched for an elapse: first the last hour, and
-/// then each time a range 8 times as long. If none of them has an elapse, all instants since 1970 are searched.
+/// The lengths, in seconds, of the ranges up to the present in which the last elapse is searched for: first one hour,
+/// and then each time 8 times as long. If none of these ranges has an elapse, all instants since 1970 are searched.
 const RANGES: [u32; 7] = [
     3_600,
     28_800,
@@ -27,8 +27,8 @@ const RANGES: [u32; 7] = [
     943_718_400,
 ];
 
-/// Returns the last instant, at or before the present, at which one of the timer's expressions elapses and none of these
-/// exceptions. Returns `None` if there is no such instant.
+/// Returns the last instant, at or before the present, at which one of the timer's expressions elapses and none of
+/// these exceptions does. Returns `None` if there is no such instant.
 ///
 /// Fails if allocation fails, or if an expression or an exception names a zone that wasn't loaded.
 pub(crate) fn last_elapse(

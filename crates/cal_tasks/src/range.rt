@@ -8,8 +8,8 @@ use cal_plan::Instants;
 use cal_rising::{NoMemory, Rising};
 use cal_zone::Instant;
 
-/// Appends the elapses of one timer from `from` on (included) and before `before`. `elapses` must be the source of its
-/// elapses after `from`, and `elapses_at_from` says whether the timer elapses at `from`.
+/// Appends the elapses of one timer that are at or after `from` and before `before`. `elapses` must be the source of
+/// its elapses after `from`, and `elapses_at_from` says whether the timer elapses at `from`.
 pub(crate) fn add_range<S: Rising>(
     found: &mut Vec<TimerElapse>,
     timer: usize,
@@ -30,7 +30,7 @@ pub(crate) fn add_range<S: Rising>(
     add_later(found, timer, elapses, from, before)
 }
 
-/// Appends those of the elapses that are at or after `from` and before `before`.
+/// Appends the elapses that are at or after `from` and before `before`.
 fn add_later<S: Rising>(
     found: &mut Vec<TimerElapse>,
     timer: usize,

@@ -28,13 +28,14 @@ use cal_timer::TimerLine;
 use cal_zone::{Instant, Setting, Zone};
 use std::alloc::{AllocError, Global};
 
-/// Returns the local times that an expression of the timer matches and that one of the next two changes of the
-/// expression's zone skips or repeats: each once for each zone, in the order of local times, and at most 16 of them.
+/// Returns notes about the local times that an expression of the timer matches and that one of the next two changes of
+/// the expression's zone skips or repeats. There is one note for each local time and zone. The notes are sorted by
+/// local time, and there are at most 16.
 ///
 /// A change of a zone is an instant at which its UTC offset isn't the one a second before. The change after the present
 /// is searched for within 1,096 days (three years), and the one after it within 1,096 days of the first. If an offset
-/// lasts less than a day, its changes may not be found. No note about a change that is found is missing, up to the
-/// limit of 16.
+/// lasts less than a day, its changes may not be found. For the changes that are found, no note is missing unless there
+/// are more than 16.
 ///
 /// Fails with [`PlanFault::NoSuchZone`] if an expression names a zone that wasn't loaded, and with
 /// [`PlanFault::NoMemory`] if allocation fails.

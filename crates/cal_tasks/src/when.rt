@@ -1,4 +1,4 @@
-//! Parsing of the two instants between which the verb `between` lists elapses.
+//! Parsing of the start and the end of the range in which the verb `between` lists elapses.
 
 ghost use Rattle.std.specs.Prelude.{◌≡◌, IfOk, option_map};
 ghost use Rattle.cal_zone.specs.rules.Setting.{setting_seen};
@@ -18,8 +18,8 @@ use std::alloc::{AllocError, Global};
 /// Why a text can't be parsed as an instant.
 #[derive(Clone, Copy, PartialEq, Eq, Debug)]
 pub enum WhenFault {
-    /// The text is neither a weekday with a time that elapses nor a timestamp. This is the reason why it isn't a
-    /// timestamp.
+    /// The text is neither a weekday with a time that elapses nor a timestamp. The value is the error of parsing it as
+    /// a timestamp.
     NoInstant(StampFault),
     /// Out of memory. The text may still be valid.
     NoMemory,

@@ -23,7 +23,7 @@ fn a_command_line(rt: HostRuntime) -> Result<(), Fail> {
     ensure(ask.request.iterations == 2, "iterations")
 }
 
-/// Checks that the zone is in the zone table if it was loaded, and isn't if memory ran out.
+/// Checks that the zone is in the zone table if it was loaded, and not in it if memory ran out.
 #[test]
 fn a_loaded_zone(rt: HostRuntime) -> Result<(), Fail> {
     let bytes = zone_file(rt.alloc())?;

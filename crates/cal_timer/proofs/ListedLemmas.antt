@@ -1,5 +1,5 @@
--- Lemmas which say that building the lists of expressions and exceptions one assignment at a time gives the same lists
--- as filtering all assignments.
+-- Building the lists of expressions and exceptions one assignment at a time has the same result as filtering all
+-- assignments.
 use Rattle.std.proofs.Common.{◌≡◌, ◌≤◌, ◌<◌, ◌+◌, ◌&&◌, cond, ℕ, Bool, true, false, not, List, [], ◌∷◌, ◌++◌, codes, filter, length, refl, sym, subst, ap, ◌∙◌, arith, append_assoc, append-nil, length-append, Option, Some, None, Result, Ok, Err}
 use Rattle.std.specs.List.{after_last, list_any}
 use Rattle.std.specs.Prelude.{nat_le}

@@ -1,5 +1,6 @@
 //! The real system: its folders, files and links, and the variables of the environment. Nothing is proved about what
-//! they contain. They can change while the program runs, so the program reads them through a [`cal_machine::Recorder`].
+//! they contain. They can change while the program runs, so the program reads all of this through a
+//! [`cal_machine::Recorder`].
 
 use cal_answers::System;
 use cal_machine::{Entry, FILE_BYTES, Names, Raw, TreeFault, Unreadable};
@@ -33,7 +34,7 @@ impl<'a, R: Files + Env + Clock + AllocGlobal + Clone + Drop> System for Machine
 
 impl<'a, R: Files + Env + AllocGlobal + Clone + Drop> Machine<'a, R> {
     /// Returns the path on the system that stands for `path`. An absolute path lies below the root folder, and the
-    /// empty path is that of the root folder itself. A relative path is that of the system.
+    /// empty path is that of the root folder itself. A relative path stays as it is.
     fn path_of(&self, alloc: Global, path: &str) -> Result<String, AllocError> {
         let root = self.root.as_str();
         match path {
@@ -124,8 +125,8 @@ fn push_entry<R: Files + Drop>(
     Ok(())
 }
 
-/// Returns what is assumed to be at a path if nothing is there. A link to `/dev/null` also masks a unit below a root
-/// folder that has no devices, such as that of an image, so `/dev` and `/dev/null` are never missing.
+/// Returns what is assumed to be at a path if nothing is there. `/dev` and `/dev/null` are never missing, so that a
+/// link to `/dev/null` masks a unit even below a root folder without devices, such as that of an image.
 fn assumed_at(path: &str) -> Entry {
     match path {
         "/dev" => Entry::Folder,

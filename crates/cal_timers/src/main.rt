@@ -69,8 +69,8 @@ fn given_arguments<R: Env + AllocGlobal>(rt: &R) -> io::Result<Vec<String>> {
     Ok(env::args(rt)?.skip(1).collect(rt.alloc())?)
 }
 
-/// Returns the exit status for arguments that can't be read: [`NOT_KNOWN`] if one of them is `due`, which may be the
-/// verb, and otherwise `status`. Allocates nothing.
+/// Returns the exit status for arguments that can't be read: [`NOT_KNOWN`] if one of them is `due`, since this may be
+/// the verb, and otherwise `status`. Allocates nothing.
 fn status_unless_due<R: Env>(rt: &R, status: u8) -> u8 {
     let mut word = [0; 3];
     for index in 1..usize::MAX {
@@ -92,8 +92,8 @@ fn exit_with<E: Sink>(err: &mut E, line: &str, status: u8) -> ExitCode
     ExitCode::from(status)
 }
 
-/// Returns the style of the output. For a terminal, the width of tables is limited, and text is bold or red unless the
-/// variable `NO_COLOR` is set and not empty (no-color.org). For other outputs, there is in practice no limit, and all
+/// Returns the style of the output. On a terminal, tables are cut to its width, and text is bold or red unless the
+/// variable `NO_COLOR` is set and not empty (no-color.org). For other outputs, tables are in practice not cut, and all
 /// text is plain.
 fn style_of(rt: &HostRuntime) -> Style {
     if !rt.stdout().is_terminal() {
@@ -112,7 +112,8 @@ fn style_of(rt: &HostRuntime) -> Style {
     }
 }
 
-/// Returns the width in the variable `COLUMNS`, or [`MIN_WIDTH`] if the variable is missing, invalid or less than that.
+/// Returns the width in the variable `COLUMNS`, or [`MIN_WIDTH`] if the variable is missing, invalid or less than
+/// [`MIN_WIDTH`].
 fn width_of(rt: &HostRuntime) -> usize {
     match env::var(rt, "COLUMNS") {
         Ok(columns) => columns

@@ -25,8 +25,8 @@ among p kind [] at holds = absurd at
 among p kind (k ∷ ks) (inl same) holds = grind (arith, ap p same)
 among p kind (k ∷ ks) (inr later) holds = grind (arith, among p kind ks later holds)
 
--- if `clap` reports an error of this kind, which is one of `kinds` or a failed allocation, then each `fault` that may
--- be reported for it is one that may be reported for `kinds`
+-- if an error of `clap` is a failed allocation or one of `kinds`, each `fault` that may be reported for this error
+-- satisfies `IsRefusalOf`
 pub reported_fault : (kinds : Kinds) (kind : ErrorKind) (fault : Fault) → (kind ≡ OutOfMemory) ⊎ IsAmong kind kinds → IsReportedOf kind fault → IsRefusalOf kinds fault
 reported_fault kinds kind (usage text) (inl full) reported = absurd (reported.1.0 full)
 reported_fault kinds kind (usage text) (inr at) reported = (among (λ k. not (is_of_help k)) kind kinds at (ap not reported.0), reported.1.1)

@@ -12,9 +12,9 @@ use crate::question::Verb;
 use clap::{Arg, ArgAction, Command};
 use std::alloc::{AllocError, Global};
 
-/// Builds the `clap` command. At the top level it has the options that most verbs share, only so that the help of the
-/// program lists them: unless the arguments ask for the help or the version of the program, the verb comes first, so
-/// `clap` parses all options as those of the verb.
+/// Builds the `clap` command. At the top level it has the options that most verbs share, but only so that the help of
+/// the program lists them. `clap` parses all options as those of the verb, since the verb comes first unless the
+/// arguments ask for the help or the version of the program.
 pub(crate) fn build_command<'a>(alloc: Global) -> Result<Command<'a>, AllocError>
     ensures { IfOk result (λ command. app_of command ≡ command_app) }
 {

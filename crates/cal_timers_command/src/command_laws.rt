@@ -12,15 +12,15 @@ ghost use Rattle.cal_timers_command.specs.rules.VerbFirst.{asks_due};
 ghost use Rattle.cal_timers_command.specs.rules.Verbs.{all_verbs};
 ghost use Rattle.cal_timers_command.specs.rules.WorkedQuestions.{clash_arguments, count_arguments, due_arguments, due_two_arguments, due_unit_arguments, help_arguments, plain_question, range_arguments, show_arguments, target_arguments, utc_arguments};
 
-/// No arguments ask two questions, and if they ask a question, the only error that may be the answer is a failed
-/// allocation.
+/// No arguments ask two different questions. If arguments ask a question, the only error that they can result in is a
+/// failed allocation.
 pub fn arguments_ask_one_question()
     ensures question { (arguments : ListOf (ListOf ℕ)) (one other : Question) → IsQuestionOf arguments one → IsQuestionOf arguments other → one ≡ other }
     ensures fault { (arguments : ListOf (ListOf ℕ)) (question : Question) (fault : Fault) → IsQuestionOf arguments question → IsFaultOf arguments fault → fault ≡ no_memory }
 {}
 
-/// After each option of a verb, the search for the verb skips the next argument if and only if the option is described
-/// to `clap` as having a value.
+/// The search for the verb skips the argument after an option of a verb if and only if the option is described to
+/// `clap` as having a value.
 pub fn value_options_have_values()
     ensures { list_all (λ verb. list_all agrees_on_value (verb_rules verb)) all_verbs ≡ true }
 {}
@@ -38,8 +38,8 @@ pub fn worked_arguments_are_questions()
     ensures due_unit { IsQuestionOf due_unit_arguments (record (plain_question Due (codes "backup" ∷ [])) { zone = Some (codes "UTC") }) }
 {}
 
-/// `--utc --zone=UTC list` is answered with the message about these two options, `list --help` with help, and
-/// `due backup clean` with invalid usage. About the texts of the last two answers, the law says only that they aren't
+/// `--utc --zone=UTC list` results in the message about these two options, `list --help` in help, and the second target
+/// of `due backup clean` in a usage error. About the texts of the last two results, the law says only that they aren't
 /// empty.
 pub fn worked_arguments_are_refused()
     ensures clash { IsFaultOf clash_arguments (usage (zone_clash false)) }

@@ -26,9 +26,9 @@ const NO_QUESTION: &str =
 impl Question {
     /// Parses the arguments after the program's name.
     ///
-    /// The verb is the first argument that is neither an option nor the value of an option. If that argument isn't the
-    /// name of a verb, it is a target, and the verb is `list`. The verb is also `list` if there is no such argument.
-    /// All arguments after `--` are targets; options may be given anywhere before `--`.
+    /// The verb is the first argument that is neither an option nor the value of an option, if this is the name of a
+    /// verb. Otherwise, this argument is a target, and the verb is `list`. The verb is also `list` if there is no such
+    /// argument before `--`. All arguments after `--` are targets; options may be given anywhere before `--`.
     ///
     /// The targets of each verb are:
     ///
@@ -111,7 +111,8 @@ fn question_of(alloc: Global, verb: Verb, values: &ArgMatches<'_>) -> Result<Que
     })
 }
 
-/// Copies the targets: the first and the second argument of `between` or `same`, and then all other targets.
+/// Returns copies of the targets: for `between` and `same`, the first and the second argument, and then, for all verbs,
+/// the other targets.
 fn targets_of(alloc: Global, values: &ArgMatches<'_>) -> Result<Vec<String>, AllocError>
     ensures { IfOk result (λ targets. map string_bytes targets.items ≡ targets_in (rows_of (found_of values.now))) }
 {

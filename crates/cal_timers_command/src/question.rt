@@ -35,13 +35,13 @@ pub struct Question {
     pub verb: Verb,
     /// The arguments that are neither the verb nor options nor the values of options, in the order given.
     ///
-    /// - `list` and `lint`: any number of units, files and folders. Without any, the question is about the units that
-    ///   other units start, or about all units if `is_all`.
+    /// - `list` and `lint`: any number of units, files and folders. Without targets, the question is about the units
+    ///   that other units start or, if `is_all`, about all units.
     /// - `show`: one or more units, files and folders.
     /// - `between`: the start and the end of the range, and then any number of units, files and folders, as for `list`.
     /// - `same`: two units, files or calendar expressions.
     /// - `next`: one or more calendar expressions.
-    /// - `due`: at most one unit or file. Without any, the question is about the unit in `$TRIGGER_UNIT`.
+    /// - `due`: at most one unit or file. Without one, the question is about the unit in `$TRIGGER_UNIT`.
     pub targets: Vec<String>,
     /// The value of `--zone`, or `UTC` if `--utc` is given. The value isn't empty, and its form isn't checked. If
     /// neither option is given, this is `None`: the local zone is the machine's or, for `next`, that of `TZ` if it is

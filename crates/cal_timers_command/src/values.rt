@@ -121,7 +121,7 @@ pub(crate) fn is_set(values: &ArgMatches<'_>, name: &str) -> bool
     }
 }
 
-/// Returns whether `--zone` is given, and before `--utc` if both are given.
+/// Returns whether `--zone` is given and, if `--utc` is given too, comes before it.
 fn is_zone_first(values: &ArgMatches<'_>) -> bool
     ensures { result ≡ is_zone_first (rows_of (found_of values.now)) }
 {
@@ -187,7 +187,7 @@ fn number_between(text: &str, least: u64, most: u64) -> Option<u64>
     }
 }
 
-/// Returns the error about an invalid value. If the value is empty, `reason` isn't used.
+/// Returns the error about an invalid value, with `reason` unless the value is empty.
 fn bad_value(alloc: Global, option: Argument, text: &str, reason: &str) -> CommandFault
     ensures { IsUsageOf (bad_value option.name.now option.value_name.now reason.now text.now) result }
 {

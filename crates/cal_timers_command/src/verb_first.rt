@@ -14,8 +14,9 @@ use std::convert::AsStr;
 /// Returns the arguments with the verb at the front.
 ///
 /// Options and their values are skipped, except for requests for help or the version: `--help`, `--version` and the
-/// short forms of these two. If the first argument that remains before `--` is such a request, the name of a verb, or
-/// `help`, this argument is moved to the front. Otherwise, and if no argument remains, `list` is inserted at the front.
+/// short forms of these two. The first argument that isn't skipped is moved to the front if it is such a request, the
+/// name of a verb, or `help`. Otherwise (it is a target or `--`, or there is no such argument), `list` is inserted at
+/// the front.
 pub(crate) fn with_verb_first<'a, S: AsStr>(
     alloc: Global,
     arguments: &'a [S],
@@ -32,8 +33,8 @@ pub(crate) fn with_verb_first<'a, S: AsStr>(
     }
 }
 
-/// Returns whether the verb is `due`, which means that the first argument that is neither an option nor the value of an
-/// option is `due`. If so, every error has the status 255, even one in the arguments.
+/// Returns whether the verb is `due`, that is, whether `due` is the first argument that is neither an option nor the
+/// value of an option. If it is, every error has the status 255, even one in the arguments.
 pub fn asks_due<S: AsStr>(arguments: &[S]) -> bool
     ensures { result ≡ asks_due (map S.text arguments.now) }
 {
@@ -43,7 +44,7 @@ pub fn asks_due<S: AsStr>(arguments: &[S]) -> bool
     }
 }
 
-/// Returns the arguments with the one at this index moved to the front.
+/// Returns the arguments, with the one at `index` moved to the front.
 fn moved_first<'a, S: AsStr>(
     alloc: Global,
     arguments: &'a [S],
@@ -95,14 +96,15 @@ fn first_word<S: AsStr>(arguments: &[S]) -> Option<usize>
     None
 }
 
-/// Returns whether the argument is an option or, if `is_value`, the value of one.
+/// Returns whether the argument is an option or the value of an option. `is_value` says whether it is a value.
 fn is_passed(is_value: bool, argument: &str) -> bool
     ensures { result ≡ (is_value || is_option argument.now) }
 {
     is_value || is_option(argument)
 }
 
-/// Returns whether the next argument is the value of this one, which is itself a value if `is_value`.
+/// Returns whether the argument is an option whose value is the next argument. If `is_value`, the argument is itself a
+/// value, and so isn't an option.
 fn awaits_value(is_value: bool, argument: &str) -> bool
     ensures { result ≡ (needs_value argument.now && not is_value) }
 {
@@ -117,8 +119,8 @@ fn is_option(argument: &str) -> bool
     argument.starts_with('-') && argument.len() > 1 && argument != "--" && !asks_help(argument)
 }
 
-/// Returns whether `clap` takes the argument for a verb, or for a request for help or the version. The verb `help`
-/// isn't in [`Verb::ALL`], since `clap` adds it.
+/// Returns whether `clap` parses the argument as a verb, or as a request for help or the version. The verb `help` isn't
+/// in [`Verb::ALL`], since `clap` adds it.
 fn leads(argument: &str) -> bool
     ensures { result ≡ leads argument.now }
 {

@@ -25,7 +25,7 @@ array_closed before values =
 pub list_closed : {X : Type 0} (json : X → Json) (before : List Token) (xs : List X) → ((before ++ begin_array ∷ []) ++ values_tokens (map json xs)) ++ end_array ∷ [] ≡ before ++ json_tokens (list_of json xs)
 list_closed json before xs = array_closed before (map json xs)
 
--- `new` is `old` and these members, one after the other
+-- `new` is `old`, followed by these members
 abbrev pub Puts : List Token → List (List ℕ × Json) → List Token → Type 0
 Puts old [] new = new ≡ old
 Puts old (m ∷ ms) new = (mid : List Token) × (mid ≡ (old ++ key m.0 ∷ []) ++ json_tokens m.1) × Puts mid ms new

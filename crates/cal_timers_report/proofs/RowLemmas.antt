@@ -11,8 +11,8 @@ all_zip_push R [] (b ∷ ys) x y h r = absurd h
 all_zip_push R (a ∷ xs) [] x y h r = absurd h
 all_zip_push R (a ∷ xs) (b ∷ ys) x y h r = (h.0, all_zip_push R xs ys x y h.1 r)
 
--- if `rows` has the rows of the first `i` elements, then with the row of the next element appended it has those of the
--- first `i + 1`
+-- one step of a loop: if `rows` has the rows of the first `i` elements, and `more` is `rows` with the row of the next
+-- element appended, then `more` has the rows of the first `i + 1`
 pub rows_pushed : {X Y A B : Type 0} (R : A → B → Type 0) (view : X → A) (seen : Y → B) (xs : List X) (i : ℕ) (x : X) (rows more : List Y) (row : Y)
     → i < length xs → x ≡ get_or xs i x → AllZip R (map view (take i xs)) (map seen rows) → R (view x) (seen row) → more ≡ rows ++ row ∷ []
     → AllZip R (map view (take (i + 1) xs)) (map seen more)
@@ -23,7 +23,7 @@ rows_pushed R view seen xs i x rows more row within is before last pushed =
     (all_zip_push R (map view (take i xs)) (map seen rows) (view (get_or xs i x)) (seen row) before
     (subst (λ y. R (view y) (seen row)) is last))))
 
--- `rows_pushed`, for elements that are their own views
+-- `rows_pushed`, for elements that aren't seen through a view
 pub rows_put : {X Y B : Type 0} (R : X → B → Type 0) (seen : Y → B) (xs : List X) (i : ℕ) (x : X) (rows more : List Y) (row : Y)
     → i < length xs → x ≡ get_or xs i x → AllZip R (take i xs) (map seen rows) → R x (seen row) → more ≡ rows ++ row ∷ []
     → AllZip R (take (i + 1) xs) (map seen more)

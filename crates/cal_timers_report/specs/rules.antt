@@ -1,4 +1,5 @@
--- What the manuals and this project's own rules say. The laws and the contracts of this crate cite these definitions.
+-- What the standards (RFC 8259, ECMA-48) and this project's own rules say about reports. The contracts of this crate
+-- cite these definitions.
 pub mod BetweenText
 pub mod Columns
 pub mod Documents

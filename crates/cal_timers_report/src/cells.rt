@@ -60,7 +60,7 @@ pub(crate) fn width_of(text: &str) -> usize
     text.chars().count()
 }
 
-/// Appends a text, and then blanks to fill up `width` characters.
+/// Appends a text, followed by as many blanks as are needed for `width` characters in all.
 pub(crate) fn push_padded(out: &mut String, text: &str, width: usize) -> Result<(), AllocError>
     ensures { OnOk result (string_bytes out.new ≡ string_bytes out.old ++ padded width text.now) }
 {

@@ -65,7 +65,7 @@ fn push_labeled(out: &mut String, label: &str, time: &ClockTime<'_>) -> Result<(
     push_line(out, time)
 }
 
-/// Appends what a clock change does to a local time, and a line feed. The local time is converted to a date and a time
+/// Appends a line that says what a clock change does to a local time. The local time is converted to a date and a time
 /// as if it were in UTC, since a skipped local time has no instant in its own zone.
 fn push_line(out: &mut String, time: &ClockTime<'_>) -> Result<(), AllocError>
     ensures { OnOk result (string_bytes out.new ≡ string_bytes out.old ++ clock_line (clock_time_seen time.now)) }
@@ -79,7 +79,7 @@ fn push_line(out: &mut String, time: &ClockTime<'_>) -> Result<(), AllocError>
     push_near(out, time, &civil(Zone::utc(), instant))
 }
 
-/// Appends the line of a local time whose date can't be printed.
+/// Appends the line about a local time whose date can't be printed.
 #[tactic(auto, unfolding(crate::specs::rules::ShowText::far_clock_text))]
 fn push_far(out: &mut String, time: &ClockTime<'_>) -> Result<(), AllocError>
     ensures { OnOk result (string_bytes out.new ≡ string_bytes out.old ++ far_clock_text (clock_time_seen time.now)) }
@@ -100,7 +100,7 @@ fn push_far_change(out: &mut String, is_skipped: bool) -> Result<(), AllocError>
     }
 }
 
-/// Appends the line of a local time with this date and this time of day.
+/// Appends the line about a local time that is shown as this date and time of day.
 #[tactic(auto, unfolding(crate::specs::rules::ShowText::clock_text))]
 fn push_near(out: &mut String, time: &ClockTime<'_>, shown: &Civil) -> Result<(), AllocError>
     ensures { OnOk result (string_bytes out.new

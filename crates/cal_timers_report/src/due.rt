@@ -22,9 +22,9 @@ pub struct DueReport<'a> {
 pub enum DueVerdict {
     /// The run is due: no timer started the service.
     ByHand,
-    /// The run is due: the timer has last elapsed at this instant.
+    /// The run is due: this is the last elapse of the timer.
     Due(Instant),
-    /// The run isn't due: an exception elapses at the last elapse of the timer's expressions.
+    /// The run isn't due: an exception elapses at this instant, the last elapse of the timer's expressions.
     Excepted(Instant),
     /// The run isn't due: the timer hasn't elapsed yet.
     NotElapsed,

@@ -43,7 +43,7 @@ fn widest(formatter: &mut InstantFormatter<'_>, elapses: &[UnitElapse<'_>]) -> u
     width
 }
 
-/// Appends a line: an instant, padded to `width` characters, two blanks, and the name of the timer.
+/// Appends a line with an instant, padded to `width` characters, two blanks, and the name of the timer.
 fn push_elapse(
     out: &mut String,
     formatter: &mut InstantFormatter<'_>,

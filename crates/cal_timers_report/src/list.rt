@@ -35,13 +35,13 @@ use std::alloc::{AllocError, Global};
 /// The number of blanks between columns.
 const GAP: usize = 2;
 
-/// The minimum room for notes: the width of `fails to load`, the longest note that isn't a setting.
+/// The minimum room for notes: the width of `fails to load`. Longer notes, such as settings, can be cut.
 const NOTES_WIDTH: usize = 13;
 
-/// What is printed in place of a next elapse that is missing, and in place of the time until then.
+/// What is printed if there is no next elapse, in place of the elapse and in place of the time until then.
 const NO_ELAPSE: &str = "-";
 
-/// The texts of a row. They have no control characters.
+/// The texts of a row, without control characters.
 #[derive(Drop)]
 struct Row {
     next: String,
@@ -184,8 +184,8 @@ fn headings_of(alloc: Global, rows: &[Row]) -> Result<Row, AllocError>
     })
 }
 
-/// Returns the widths of the columns. A column is as wide as its widest entry, but units that leave too little room for
-/// notes don't widen the column of units.
+/// Returns the widths of the columns. A column is as wide as its widest entry, except that the column of units isn't
+/// widened for units that would leave too little room for notes.
 fn widths_of(terminal: usize, rows: &[Row]) -> Widths
     ensures { result ≡ widths_of terminal (map row_seen rows.now) }
 {
@@ -229,7 +229,7 @@ fn widest_notes(rows: &[Row]) -> usize
     width
 }
 
-/// Returns the width of the column of units if there is this much room for units and notes.
+/// Returns the width of the column of units. `room` is the width that the columns of units and notes have together.
 fn unit_width(room: usize, rows: &[Row]) -> usize
     ensures { result ≡ unit_width room (map row_seen rows.now) }
 {
@@ -255,7 +255,7 @@ fn width_in(room: usize, unit: &str) -> usize
     if width <= room { width } else { 0 }
 }
 
-/// Returns what is left of the width of the terminal after the columns of next elapses and of the time until then.
+/// Returns the width of the terminal that is left after the columns of next elapses and of the time until then.
 fn room_after(terminal: usize, next: usize, left: usize) -> usize
     ensures { result ≡ room_after terminal next left }
 {
@@ -325,7 +325,7 @@ fn push_unit_and_notes(
     push_cut(out, notes, notes_room(widths, unit))
 }
 
-/// Returns the width to which the notes of a row are cut: what is left of the terminal's width, but at least
+/// Returns the width to which the notes of a row are cut: the rest of the terminal's width, but at least
 /// [`NOTES_WIDTH`].
 fn notes_room(widths: Widths, unit: &str) -> usize
     ensures { result ≡ notes_room widths unit.now }

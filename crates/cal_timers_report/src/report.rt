@@ -25,7 +25,7 @@ pub struct ShownTimer<'a> {
     pub expressions: Vec<ShownLine<'a>>,
     pub exceptions: Vec<ShownLine<'a>>,
     /// The other settings that decide when the timer starts a unit, and which unit that is, each as `KEY=VALUE`, and
-    /// other notes.
+    /// other notes about the timer.
     pub notes: Vec<&'a str>,
     /// Warnings about expressions that systemd may interpret differently or compute wrongly.
     pub warnings: Vec<String>,
@@ -45,7 +45,8 @@ pub struct ShownLine<'a> {
     /// The expression as it is written.
     pub text: &'a str,
     pub expr: &'a Expr,
-    /// The line of the file that it comes from, or `None` if it was given on the command line.
+    /// The line of the file with the expression or exception, or `None` if the expression was given on the command
+    /// line.
     pub place: Option<Place<'a>>,
 }
 
@@ -90,18 +91,19 @@ pub struct Comparison<'a> {
 pub struct Side<'a> {
     /// The name of this timer.
     pub unit: &'a str,
-    /// The first instant at which it elapses and the other timer doesn't.
+    /// The first instant at which this timer elapses and the other timer doesn't.
     pub only: Option<Instant>,
-    /// The settings that it has and the other timer doesn't, each as `KEY=VALUE`.
+    /// The settings that this timer has and the other timer doesn't, each as `KEY=VALUE`.
     pub settings: Vec<&'a str>,
 }
 
 /// A problem in the report of `lint`.
 #[derive(Clone, Copy)]
 pub struct ProblemRow<'a> {
-    /// The path of the file or, for a problem of the timer as a whole, the name of the timer.
+    /// The path of the file that has the problem. If the problem has no line, this can also be the name of a timer, or
+    /// the path of a folder.
     pub file: &'a str,
-    /// The number of the line with the problem, from 1. `None` for a problem of the timer as a whole.
+    /// The number of the line with the problem, from 1. `None` for a problem of a timer, file or folder as a whole.
     pub line: Option<u32>,
     /// The byte of the line, counted from 1, at which the problem begins, or 1 if the problem is in a value that
     /// continues on the next line. `None` if only the line is known.

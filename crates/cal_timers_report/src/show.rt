@@ -37,7 +37,8 @@ use std::alloc::{AllocError, Global};
 ///
 /// The text about a timer has its name, its files, its expressions and exceptions in normal form, the other settings
 /// that decide when it starts a unit, warnings, its last elapse, its next elapses, and the local times that clock
-/// changes skip or repeat. Each of these has lines of its own. If a timer has no expressions, its elapses are left out.
+/// changes skip or repeat. Each of these is on lines of its own. If a timer has no expressions, its last and next
+/// elapses are left out.
 pub fn show_text(
     alloc: Global,
     zone: Zone<'_>,
@@ -141,7 +142,7 @@ fn push_settings(alloc: Global, out: &mut String, timer: &ShownTimer<'_>) -> Res
     push_strs(out, "  Also:", timer.notes.as_slice())
 }
 
-/// Appends a line for each text, the first one with a label.
+/// Appends a line for each text. Only the first line has a label.
 #[tactic(auto, unfolding(crate::specs::rules::ShowText::texts_under))]
 fn push_strs(out: &mut String, label: &str, texts: &[&str]) -> Result<(), AllocError>
     ensures { OnOk result (string_bytes out.new
@@ -157,7 +158,7 @@ fn push_strs(out: &mut String, label: &str, texts: &[&str]) -> Result<(), AllocE
     Ok(())
 }
 
-/// Appends a line for each expression, in its normal form, the first one with a label.
+/// Appends a line for each expression, in its normal form. Only the first line has a label.
 #[tactic(auto, unfolding(crate::specs::rules::ShowText::normal_lines, crate::specs::rules::ShowText::texts_under))]
 fn push_lines(
     alloc: Global,
@@ -191,7 +192,7 @@ fn push_line(
     push_labeled(out, label, normal.as_str())
 }
 
-/// Appends lines like [`push_strs`].
+/// Appends the lines that [`push_strs`] appends, for texts that are `String`s.
 #[tactic(auto, unfolding(crate::specs::rules::ShowText::texts_under))]
 fn push_texts(out: &mut String, label: &str, texts: &[String]) -> Result<(), AllocError>
     ensures { OnOk result (string_bytes out.new

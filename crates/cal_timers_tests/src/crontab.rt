@@ -46,7 +46,8 @@ static TIME_FIELDS: [(&str, &str); 68] = [
     ("0 0 * * 1-7/3", "Mon,Thu,Sun *-*-* 00:00:00"),
     ("0 0 * * sat,SUN", "Sat,Sun *-*-* 00:00:00"),
     ("0 0 * * 0-6", "*-*-* 00:00:00"),
-    // If neither the day of the month nor the weekday begins with `*`, one of the two has to match; otherwise both.
+    // If neither the day of the month nor the weekday begins with `*`, at least one of the two has to match; otherwise
+    // both have to.
     ("0 0 1,15 * 1", "*-*-01,15 00:00:00; Mon *-*-* 00:00:00"),
     ("30 4 1,15 * 5", "*-*-01,15 04:30:00; Fri *-*-* 04:30:00"),
     (

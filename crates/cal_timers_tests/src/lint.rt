@@ -26,7 +26,8 @@ static PLACES: [Row; 3] = [
         "Äö\t1-5ß 09:00",
         "ü\\x0a:1:6: warning: this is a month and a day, not a range of weekdays\nÄö\\x091-5ß 09:00\n      ^~~~\n",
     ),
-    // In the next row, the column is inside a character, and in the one after it the file doesn't have the line.
+    // In the first of the next two rows, the column is inside a character. In the second, the file doesn't have the
+    // line.
     (
         1,
         2,

@@ -17,7 +17,7 @@ pub enum Item<'a> {
     Closed,
     /// A file that can't be read.
     Locked,
-    /// Something that can't be looked at.
+    /// Something that can't even be examined.
     Hidden,
 }
 

@@ -12,7 +12,8 @@ use Rattle.std.specs.Str.{IsCharBoundary, IsUtf8, is_utf8}
 use Rattle.cal_lint.specs.declared.problems.Finding.{Finding}
 use Rattle.cal_timers_text.specs.rules.LintText.{can_cut, has_column, is_in_value, word_at_fault, word_from}
 
--- the line that `nth` found, or an empty text if it found none, is the one that the definition finds
+-- the line that `nth` found, or an empty text if it found none, is what `slice_get` returns, with an empty text as the
+-- default
 pub line_or_empty : (lines : List (List ℕ)) (index : ℕ) (found : Option (Bor (List ℕ))) (empty : Bor (List ℕ)) → empty.now ≡ []
     → option_map (λ line. line.now) found ≡ slice_get lines index → (unwrap_or found empty).now ≡ unwrap_or (slice_get lines index) []
 line_or_empty lines index None empty none h = none ∙ ap (λ line. unwrap_or line []) h

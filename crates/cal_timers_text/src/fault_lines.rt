@@ -18,14 +18,14 @@ use cal_unit_index::Reason;
 use cal_zone_files::{FileReason, Origin, ZonesFault};
 use std::alloc::{AllocError, Global};
 
-/// The message about a timer whose unit nothing starts.
+/// The message about a timer without a setting that starts its unit.
 pub const NOTHING_TO_DO: &str = "no setting starts its unit";
 
-/// What follows the message about a zone without a file if the zone's name looks like an abbreviation.
+/// What is added to the message about a zone without a file if the zone's name looks like an abbreviation.
 const ABBREVIATION_HINT: &str =
     "; an abbreviation stands for a single offset: write the name of a zone, such as Europe/Berlin";
 
-/// The folder of the zone files. In a path, the name of the zone follows it.
+/// The folder of the zone files. A zone file's path is this text followed by the zone's name.
 const ZONE_FOLDER: &str = "/usr/share/zoneinfo/";
 
 /// Returns the error line about a timer that can't be loaded, without a line feed. The line begins with what is at
@@ -48,8 +48,9 @@ fn push_fault_line(out: &mut String, fault: &TargetFault) -> Result<(), AllocErr
     }
 }
 
-/// Returns what can't be found or read, which is a target or a path, and the message about it. Returns `None` if the
-/// contents of files or the text of an expression are at fault.
+/// Returns the target or path at fault and the message about it, if a unit, a file or a folder can't be found or read,
+/// or if the target is a template or has too many aliases. Returns `None` for any other fault: then the contents of
+/// files or the text of an expression are at fault.
 #[tactic(auto, unfolding(crate::specs::rules::ErrorLines::unread_words))]
 pub fn unread_words(fault: &TargetFault) -> Option<(&str, &'static str)>
     ensures { option_map (λ words. (words.0.now, words.1.now)) result ≡ unread_words fault.now }
@@ -81,8 +82,8 @@ fn push_content_fault(out: &mut String, fault: &TargetFault) -> Result<(), Alloc
     }
 }
 
-/// Returns the error line about a line in the files of a timer that is ignored, without a line feed. It begins with the
-/// path of the file and the number that the line has in this file.
+/// Returns the error line about an ignored line in the files of a timer, without a line feed. The error line begins
+/// with the path of the file and the number of the ignored line in this file.
 #[tactic(auto, unfolding(crate::specs::rules::ErrorLines::ignored_line))]
 pub fn ignored_text(
     alloc: Global,
@@ -99,7 +100,7 @@ pub fn ignored_text(
 }
 
 /// Returns the error line about a line in the files of a timer that is ignored because of its zone, without a line
-/// feed. It begins with the path and the number of the line, like the error lines of [`ignored_text`].
+/// feed. The error line begins with a path and a line number, like those of [`ignored_text`].
 #[tactic(auto, unfolding(crate::specs::rules::ErrorLines::unusable_zone_line))]
 pub fn unusable_zone_text(
     alloc: Global,
@@ -142,8 +143,8 @@ pub fn broken_drop_in_words(alloc: Global, reason: BrokenReason) -> Result<Strin
     format!(in alloc; "{words}, so the drop-in is ignored from this line on")
 }
 
-/// Returns the error line about a drop-in of a timer, without a line feed, for the line at which systemd stops reading
-/// the drop-in. It begins with the path of the drop-in and the number that the line has in it.
+/// Returns the error line about a drop-in that systemd stops reading at this line, without a line feed. The error line
+/// begins with the path of the drop-in and the number of the line in the drop-in.
 #[tactic(auto, unfolding(crate::specs::rules::ErrorLines::broken_line))]
 pub fn broken_text(
     alloc: Global,
@@ -229,7 +230,7 @@ fn reason_words(reason: Reason) -> &'static str
     }
 }
 
-/// Appends what is at fault, a colon and a blank, and the message.
+/// Appends `subject` (what is at fault), a colon, a blank and the message.
 #[tactic(auto, unfolding(crate::specs::rules::ErrorLines::subject_line))]
 fn push_fault(out: &mut String, subject: &str, message: &str) -> Result<(), AllocError>
     ensures { OnOk result (string_bytes out.new ≡ string_bytes out.old ++ subject_line subject.now message.now) }
@@ -246,8 +247,9 @@ fn push_broken(out: &mut String, path: &str, line: BrokenLine) -> Result<(), All
     out.push_str(broken_words(line.reason))
 }
 
-/// Appends the error line about a timer whose unit nothing starts. It is about the first line that is ignored as
-/// invalid, or else about the first one whose zone can't be used. If no line is ignored, it is about the timer.
+/// Appends the error line about a timer without a setting that starts its unit. The line is about the first expression
+/// or exception that is ignored as invalid, or else about the first one whose zone can't be used. If there is none of
+/// either, it is about the timer.
 #[tactic(auto, unfolding(crate::specs::rules::ErrorLines::idle_line))]
 fn push_idle(out: &mut String, timer: &str, files: &TimerFiles) -> Result<(), AllocError>
     ensures { OnOk result (string_bytes out.new ≡ string_bytes out.old ++ idle_line timer.now files.now) }
@@ -285,9 +287,8 @@ fn push_unusable_zone(
     push_zone_fault(out, zone.path.as_str(), zone.reason)
 }
 
-/// Appends the path of the file that has the line with this continued number, and the number that the line has in this
-/// file, each with a colon after it, and a blank. If no file has the line, appends the name of the timer and the
-/// continued number instead.
+/// Appends `PATH:LINE: `: the path of the file that has the line with this continued number, and the line's number in
+/// this file. If no file has the line, appends the name of the timer and the continued number instead.
 #[tactic(auto, unfolding(crate::specs::rules::ErrorLines::place_text))]
 fn push_place(
     out: &mut String,
@@ -301,7 +302,7 @@ fn push_place(
     push_position(out, path, line)
 }
 
-/// Appends a path and the number of a line, each with a colon after it, and a blank.
+/// Appends `PATH:LINE: ` with this path and this line number.
 #[tactic(auto, unfolding(crate::specs::rules::ErrorLines::position_text))]
 fn push_position(out: &mut String, path: &str, line: u32) -> Result<(), AllocError>
     ensures text { OnOk result (string_bytes out.new ≡ string_bytes out.old ++ position_text path.now line) }
@@ -347,7 +348,7 @@ fn push_no_zone(out: &mut String, zone: &str) -> Result<(), AllocError>
     push_hint(out, after_prefix(ZONE_FOLDER, zone))
 }
 
-/// Appends the hint about a zone with this name if the name looks like an abbreviation.
+/// Appends the hint if the zone's name looks like an abbreviation.
 fn push_hint(out: &mut String, name: Option<&str>) -> Result<(), AllocError>
     ensures { OnOk result (string_bytes out.new
         ≡ string_bytes out.old ++ abbreviation_hint (option_map (λ name. name.now) name.entry)) }

@@ -42,8 +42,8 @@ pub fn finding_text(
     Ok(out)
 }
 
-/// Returns the line about a problem that has no column, or not even a line. `file` is the path of the file, or the name
-/// of the timer if the problem has no line.
+/// Returns the line about a problem that has no column, or not even a line. `file` is the path of the file. If the
+/// problem has no line, it can also be the name of a timer, or the path of a folder.
 #[tactic(auto, unfolding(crate::specs::rules::LintText::problem_line))]
 pub fn problem_text(
     alloc: Global,
@@ -64,7 +64,7 @@ pub fn problem_text(
     Ok(out)
 }
 
-/// Appends the number of a line, if there is one, and what separates it from the message.
+/// Appends what is between the file and the message: `:LINE: `, or `: ` if there is no line number.
 fn push_line_number(out: &mut String, line: Option<u32>) -> Result<(), AllocError>
     ensures { OnOk result (string_bytes out.new ≡ string_bytes out.old ++ after_file line) }
 {
@@ -74,8 +74,8 @@ fn push_line_number(out: &mut String, line: Option<u32>) -> Result<(), AllocErro
     }
 }
 
-/// Appends a line with the numbers of errors and warnings, such as `1 error, 2 warnings`. A number that is 0 is left
-/// out, and nothing is appended if both are.
+/// Appends a line with the numbers of errors and warnings, such as `1 error, 2 warnings`. Leaves out a number that is
+/// 0, and appends nothing if both numbers are 0.
 #[tactic(auto, unfolding(crate::specs::rules::LintText::counts_line))]
 pub fn push_counts(out: &mut String, counts: ProblemCounts) -> Result<(), AllocError>
     ensures { OnOk result (string_bytes out.new ≡ string_bytes out.old ++ counts_line counts.errors counts.warnings) }
@@ -86,7 +86,7 @@ pub fn push_counts(out: &mut String, counts: ProblemCounts) -> Result<(), AllocE
     push_line_end(out, counts)
 }
 
-/// Appends what separates the two numbers, or nothing if one of them is 0.
+/// Appends what separates the numbers of errors and warnings, or nothing if one of them is 0.
 fn push_separator(out: &mut String, counts: ProblemCounts) -> Result<(), AllocError>
     ensures { OnOk result (string_bytes out.new
         ≡ string_bytes out.old ++ counts_separator counts.errors counts.warnings) }
@@ -98,7 +98,7 @@ fn push_separator(out: &mut String, counts: ProblemCounts) -> Result<(), AllocEr
     }
 }
 
-/// Appends a line feed, or nothing if both numbers are 0.
+/// Appends a line feed, or nothing if there are neither errors nor warnings.
 fn push_line_end(out: &mut String, counts: ProblemCounts) -> Result<(), AllocError>
     ensures { OnOk result (string_bytes out.new
         ≡ string_bytes out.old ++ counts_end counts.errors counts.warnings) }
@@ -110,7 +110,7 @@ fn push_line_end(out: &mut String, counts: ProblemCounts) -> Result<(), AllocErr
     }
 }
 
-/// Appends a number and a noun in the form for this number, or nothing if the number is 0.
+/// Appends a number and a noun, with an `s` if the number is greater than 1, or nothing if the number is 0.
 #[tactic(auto, unfolding(crate::specs::rules::LintText::counted))]
 fn push_count(out: &mut String, count: usize, noun: &str) -> Result<(), AllocError>
     ensures { OnOk result (string_bytes out.new ≡ string_bytes out.old ++ counted count noun.now) }
@@ -122,7 +122,7 @@ fn push_count(out: &mut String, count: usize, noun: &str) -> Result<(), AllocErr
     }
 }
 
-/// Appends a path, the number of a line and a column, each with a colon after it, and a blank.
+/// Appends `PATH:LINE:COLUMN: `.
 #[tactic(auto, unfolding(crate::specs::rules::LintText::finding_place))]
 fn push_place(out: &mut String, path: &str, line: u32, column: u32) -> Result<(), AllocError>
     ensures { OnOk result (string_bytes out.new ≡ string_bytes out.old ++ finding_place path.now line column) }
@@ -204,9 +204,13 @@ fn physical_line(text: &str, number: u32) -> &str
         .unwrap_or("")
 }
 
-/// Returns the text before the word at the column of the problem, and the word. If the problem isn't in a value, the
-/// word is the key, or the whole line if it has none. Returns `None` if the column isn't known, because the value
-/// continues on the next line, or if the line doesn't have this column.
+/// Returns the text before the column of the problem, and the word that begins at the column. If the problem is in a
+/// value, this word is the first one from the column on. Otherwise, it is a key: the text from the column up to the
+/// first `=`, or to the end of the line if there is no `=`, without blanks at its end. The key can be empty, as in
+/// `=5min`.
+///
+/// Returns `None` if the line doesn't have this column, or if the column isn't known because the value continues on the
+/// next line.
 #[tactic(auto, unfolding(crate::specs::rules::LintText::word_at_fault))]
 fn word_at_fault<'t>(line: &'t str, finding: &Finding) -> Option<(&'t str, &'t str)>
     ensures { option_map (λ fault. (fault.0.now, fault.1.now)) result ≡ word_at_fault line.now finding.now }
@@ -218,7 +222,7 @@ fn word_at_fault<'t>(line: &'t str, finding: &Finding) -> Option<(&'t str, &'t s
     Some((parts.0, word_from(finding.problem, parts.1)))
 }
 
-/// Returns the first word of a value, or the key of a setting, if the problem isn't in the value.
+/// Returns the first word of `after` if the problem is in a value, and otherwise the key with which `after` begins.
 fn word_from(problem: Problem, after: &str) -> &str
     ensures { result.now ≡ word_from problem after.now }
 {

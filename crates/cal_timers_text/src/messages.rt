@@ -89,7 +89,7 @@ fn section_name(section: Section) -> &'static str
     }
 }
 
-/// Returns the message about an expression that systemd 252 computes wrongly because of a step without an end.
+/// Returns the message about an expression whose elapses systemd 252 computes wrongly because of a step without an end.
 #[tactic(auto, unfolding(crate::specs::rules::FlawWords::flaw_words))]
 pub(crate) fn flaw_words(flaw: OpenStepFlaw) -> &'static str
     ensures { result.now ≡ flaw_words flaw }
@@ -125,7 +125,8 @@ fn loss_words(field: Field) -> &'static str
     }
 }
 
-/// Returns what is wrong with a value that systemd doesn't take for a setting of this kind, as the start of a message.
+/// Returns what is wrong with a value that systemd doesn't accept for a setting of this kind, as the start of a
+/// message.
 #[tactic(auto, unfolding(crate::specs::rules::Messages::value_words))]
 fn value_words(kind: SettingKind) -> &'static str
     ensures { result.now ≡ value_words kind }
@@ -151,7 +152,8 @@ fn push_invalid(
     }
 }
 
-/// Appends the start of the message about an error: nothing, unless an expression is invalid.
+/// Appends what precedes the message of an error: [`INVALID_EXPRESSION`] if an expression is invalid, and otherwise
+/// nothing.
 fn push_start(out: &mut String, fault: TimerFault) -> Result<(), AllocError>
     ensures { OnOk result (string_bytes out.new ≡ string_bytes out.old ++ start_of fault) }
 {
@@ -161,7 +163,7 @@ fn push_start(out: &mut String, fault: TimerFault) -> Result<(), AllocError>
     }
 }
 
-/// Returns the message that an expression is invalid, for this reason.
+/// Returns the message that an expression is invalid, with the reason `why`.
 pub fn invalid_words(alloc: Global, why: &str) -> Result<String, AllocError>
     ensures { IfOk result (λ message. string_bytes message ≡ invalid_message why.now) }
 {

@@ -18,10 +18,10 @@ const ABBREVIATION: &str =
     " is an abbreviation, which systemd may take for winter time or summer time only; write the name of a zone, such as Europe/Berlin";
 
 /// Returns warnings about the calendar expressions of the timer, in order. An expression has a warning if its zone
-/// looks like an abbreviation: systemd takes `CET` for winter time only, if it is an abbreviation of the machine's own
-/// zone. It also has a warning if systemd 252 computes its elapses wrongly because of a step without an end
-/// ([`reported_flaw`]), and one if systemd 252 fails because clocks in its zone skip a midnight of the next three years
-/// ([`stops_at_midnight`]). Fails only if allocation fails.
+/// looks like an abbreviation, since systemd may take it for winter time or summer time only. It has another warning if
+/// systemd 252 computes its elapses wrongly because of a step without an end ([`reported_flaw`]), and another if
+/// systemd 252 fails because clocks in its zone skip a midnight of the next three years ([`stops_at_midnight`]). Fails
+/// only if allocation fails.
 pub fn warnings_of(
     alloc: Global,
     at: Clocked<'_>,
@@ -73,7 +73,8 @@ fn push_warnings_on(
     push_flaw(alloc, warnings, text, midnight_flaw(at, timer, line))
 }
 
-/// Returns the flaw that systemd 252 fails at a midnight that clocks skip, if the expression on `line` has it.
+/// Returns [`OpenStepFlaw::FailsAtMidnightChanges`] if systemd 252 fails for the expression on `line` because clocks
+/// skip a midnight ([`stops_at_midnight`]).
 fn midnight_flaw(at: Clocked<'_>, timer: &LoadedTimer, line: &TimerLine) -> Option<OpenStepFlaw>
     ensures { result ≡ midnight_flaw (setting_for at.entry timer.now) at.entry.now.secs (shown line.now) }
 {
@@ -84,7 +85,7 @@ fn midnight_flaw(at: Clocked<'_>, timer: &LoadedTimer, line: &TimerLine) -> Opti
     }
 }
 
-/// Appends the warning about the zone of the expression `text` if there is one.
+/// Appends the warning about the expression `text` if its zone looks like an abbreviation.
 fn push_abbreviation(
     alloc: Global,
     warnings: &mut Vec<String>,
@@ -103,7 +104,7 @@ fn push_abbreviation(
     }
 }
 
-/// Appends the warning about the steps of the expression `text` if there is one.
+/// Appends the warning about the expression `text` if systemd 252 computes it wrongly because of a step without an end.
 fn push_flaw(
     alloc: Global,
     warnings: &mut Vec<String>,

@@ -47,8 +47,8 @@ machine files links = record {
   variable = λ name. Ok None;
 }
 
--- the drop-ins that are read for a unit of this type on a machine with these files; the search path has the folders `/etc` and
--- `/lib`
+-- the drop-ins that are read for a unit of this type on a machine with these files; the search path has the folders
+-- `/etc` and `/lib`
 abbrev read_by : UnitType → List File → List (List ℕ) → List (List ℕ) → List (List ℕ)
 read_by unit_type files links stems =
     map (λ text. text.path) (texts_at (machine files links) (drop_ins (machine files links) (codes "/etc" ∷ codes "/lib" ∷ []) unit_type stems))
@@ -119,8 +119,8 @@ rows =
       in_etc (codes "also.timer.d") (codes "x.conf") ∷ in_lib (codes "foo.timer.d") (codes "x.conf") ∷ in_lib (codes "also.timer.d") (codes "y.conf") ∷ [],
       ([], (codes "foo" ∷ codes "also" ∷ [], codes "/lib/foo.timer.d/x.conf" ∷ codes "/lib/also.timer.d/y.conf" ∷ [])),
     )
-    -- In the next three rows, a prefix of an instance's name applies as a template and as an instance, too. Both lose to
-    -- the prefix alone, and the template loses to the instance.
+    -- In the next three rows, a prefix of an instance's name applies as a template and as an instance, too. Both lose
+    -- to the prefix alone, and the template loses to the instance.
     ∷ (
       in_etc (codes "a-.timer.d") (codes "x.conf") ∷ in_etc (codes "a-@i.timer.d") (codes "x.conf") ∷ [],
       ([], (codes "a-b@i" ∷ [], codes "/etc/a-.timer.d/x.conf" ∷ [])),

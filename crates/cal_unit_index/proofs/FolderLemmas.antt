@@ -56,8 +56,8 @@ base_is_boundary stem short high = let low = at_sign_is_ascii stem short in omeg
 pub base_fits : (stem : List ℕ) → length (stem_base stem) ≤ length stem
 base_fits stem = let cut = length-take (position_or_len is_at_sign stem) stem in omega arith
 
--- if a loop appends what `F` makes of each element, and has done so for the first `i`, then after the next element it
--- has done so for the first `i + 1`
+-- Suppose that a loop appends what `F` returns for each element, and has done so for the first `i`. After it has done
+-- so for the next element, it has done so for the first `i + 1`.
 pub step_flat : {A B C : Type 0} (F : B → List C) (view : A → B) (front before now : List C) (xs : List A) (i : ℕ) (x : A)
     → i < length xs → x ≡ get_or xs i x → before ≡ front ++ flat_map F (map view (take i xs)) → now ≡ before ++ F (view x)
     → now ≡ front ++ flat_map F (map view (take (i + 1) xs))
@@ -72,7 +72,7 @@ pub All_reverse : {A : Type 0} (P : A → Type 0) (xs : List A) → All P xs →
 All_reverse P [] all = All-nil P
 All_reverse P (x ∷ xs) all = rw (reverse-append (x ∷ []) xs) (All-append P (reverse xs) (x ∷ []) (All_reverse P xs (All-tail P x xs all)) (All-cons P x [] (All-head P x xs all) (All-nil P)))
 
--- what holds of all elements, as `view` shows them, holds of the element at this index
+-- if `P` holds for all elements, seen through `view`, it holds for the element at index `i`
 pub All_item : {A B : Type 0} (P : B → Type 0) (view : A → B) (xs : List A) (i : ℕ) (x : A) → i < length xs → x ≡ get_or xs i x
     → All P (map view xs) → P (view x)
 All_item P view xs i x short is all =

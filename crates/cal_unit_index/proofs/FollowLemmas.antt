@@ -4,7 +4,8 @@ use Rattle.cal_unit_index.specs.rules.Destinations.{Destination}
 use Rattle.cal_unit_index.specs.rules.Destinations.Destination.{AliasOf}
 use Rattle.cal_unit_index.specs.rules.Units.{follow, following, from_destination, looked_up, max_aliases}
 
--- one step of `follow`, if `stem` is looked up by the stem `other`, and `found` is the destination of `other`
+-- if `follow` looks up the stem `other` for `stem`, and `found` is the destination of `other`, then `follow` returns
+-- what `from_destination` returns for `found`, with one step fewer left
 pub follow_on : (lookup : List ℕ → Option Destination) (count n : ℕ) (stem other : List ℕ) (found : Option Destination)
     → count ≡ suc n → other ≡ looked_up lookup stem → found ≡ lookup other
     → from_destination (follow lookup n) other found ≡ follow lookup count stem

@@ -61,8 +61,8 @@ pub mapped_more : {X Y Z : Type 0} (f : Y → Option Z) (view : X → Y) (xs : L
     → filter_map f (map view xs) ++ option_to_list (f (view x)) ≡ filter_map f (map view (xs ++ x ∷ []))
 mapped_more f view xs x = sym (filter_map_more f (map view xs) (view x)) ∙ ap (filter_map f) (sym (map-append view xs (x ∷ [])))
 
--- if `before` is `start` followed by what `f` gives for `xs`, and `after` also has what `f` gives for `x`, then `after`
--- is `start` followed by what `f` gives for `xs` and `x`
+-- if `before` is `start` followed by what `f` returns for `xs`, and `after` also has what `f` returns for `x`, then
+-- `after` is `start` followed by what `f` returns for `xs` and `x`
 pub appended_more : {X Y Z : Type 0} (f : Y → Option Z) (view : X → Y) (start before after : List Z) (xs : List X) (x : X)
     → after ≡ before ++ option_to_list (f (view x)) → before ≡ start ++ filter_map f (map view xs)
     → after ≡ start ++ filter_map f (map view (xs ++ x ∷ []))
@@ -75,8 +75,8 @@ appended_more f view start before after xs x added held =
 next_taken : {X : Type 0} (xs : List X) (i : ℕ) (x : X) → i < length xs → x ≡ get_or xs i x → take (i + 1) xs ≡ take i xs ++ x ∷ []
 next_taken xs i x h is = take_more xs i x h ∙ ap (λ y. take i xs ++ y ∷ []) (sym is)
 
--- if `before` is the sorted set of what `f` gives for the first `i` items, then with what it gives for the next item it
--- is the set for the first `i + 1`
+-- if `before` is the sorted set of what `f` returns for the first `i` items, and `after` also has what `f` returns for
+-- the next item, then `after` is this set for the first `i + 1` items
 pub set_more : {X Y : Type 0} (f : Y → Option (List ℕ)) (view : X → Y) (xs : List X) (i : ℕ) (x : X) (before after : List (List ℕ))
     → i < length xs → x ≡ get_or xs i x
     → after ≡ with_texts before (option_to_list (f (view x))) → before ≡ sorted_once (filter_map f (map view (take i xs)))
@@ -97,7 +97,7 @@ or_none : {X : Type 0} (o : Option X) → option_or o None ≡ o
 or_none None = refl
 or_none (Some x) = refl
 
--- entering a destination for a stem that had none changes what is found for this stem, and for no other
+-- entering a destination for a stem that had none changes the look-up of this stem, and of no other
 pub entered_new : {X Y : Type 0} (view : X → Y) (old new : List ℕ → Option X) (stem other : List ℕ) (destination : X)
     → is_some (old stem) ≡ false → new other ≡ cond (bytes_eq stem other) (Some destination) (old other)
     → option_map view (new other) ≡ option_or (option_map view (old other)) (cond (bytes_eq other stem) (Some (view destination)) None)
@@ -123,7 +123,7 @@ among_either None None true true = refl
 among_either None None true false = refl
 among_either None d false c = refl
 
--- adding stems to an index, and then one more, is adding all of them
+-- if several stems, and then one more, were added to an index, all of them were added
 pub stems_more : (machine : Machine) (path : List (List ℕ)) (folder : List ℕ) (stems : List (List ℕ)) (stem : List ℕ) (old mid new : UnitIndex)
     → HasStems machine path folder stems old mid → HasStems machine path folder (stem ∷ []) mid new
     → HasStems machine path folder (stems ++ stem ∷ []) old new

@@ -1,4 +1,5 @@
--- What an index says about the folders of its search path: their paths, and that their names are those on the machine.
+-- What an index says about the folders of its search path: their paths, and the names in them, which are those on the
+-- machine.
 use Rattle.std.proofs.Common.{◌≡◌, ◌∙◌, ℕ, List, [], ◌∷◌, All, ap, map, refl, sym}
 use Rattle.std.proofs.lemmas.List.{map-id}
 use Rattle.std.proofs.lemmas.List.Elements.{All-cons, All-head, All-map, All-nil, All-tail}

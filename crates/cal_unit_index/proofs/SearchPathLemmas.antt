@@ -17,7 +17,7 @@ pub now_or : (text : Option (Bor (List ℕ))) (default : Bor (List ℕ)) → (un
 now_or (Some text) default = refl
 now_or None default = refl
 
--- the folders in the directories that the code finds are those that the definition derives from the variables
+-- if the code finds the same directories as the definition, both derive the same folders from them
 pub directories_are : (variables : UserVariables) (config share : List ℕ) (runtime_dirs config_dirs data_dirs : List (List ℕ))
     → runtime_dirs ≡ option_to_list (option_copied variables.runtime_dir)
     → config_dirs ≡ paths_in (unwrap_or (option_copied variables.config_dirs) (codes "/etc/xdg"))

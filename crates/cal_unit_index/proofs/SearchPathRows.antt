@@ -6,7 +6,7 @@ use Rattle.cal_unit_index.specs.rules.SearchPath.{Variables, each_once, given_pa
 abbrev unset : Variables
 unset = record { home = None; config_home = None; config_dirs = None; data_home = None; data_dirs = None; runtime_dir = None }
 
--- `HOME=/h XDG_RUNTIME_DIR=/r`
+-- the search path for the variables `HOME=/h XDG_RUNTIME_DIR=/r`
 usual : user_path (record unset { home = Some (codes "/h"); runtime_dir = Some (codes "/r") })
     ≡ Some
     (
@@ -19,7 +19,8 @@ usual : user_path (record unset { home = Some (codes "/h"); runtime_dir = Some (
 unfolding user_path own_directory each_once plain_path paths_in
 usual = refl
 
--- `XDG_CONFIG_HOME= XDG_DATA_HOME=//d/./e/ XDG_CONFIG_DIRS=/a/:b::/etc XDG_DATA_DIRS=`
+-- the search path for the variables `XDG_CONFIG_HOME= XDG_DATA_HOME=//d/./e/ XDG_CONFIG_DIRS=/a/:b::/etc
+-- XDG_DATA_DIRS=`
 unusual : user_path (record unset { config_home = Some []; data_home = Some (codes "//d/./e/"); config_dirs = Some (codes "/a/:b::/etc"); data_dirs = Some [] })
     ≡ Some
     (
@@ -30,12 +31,12 @@ unusual : user_path (record unset { config_home = Some []; data_home = Some (cod
 unfolding user_path own_directory each_once plain_path paths_in
 unusual = refl
 
--- the user's home is needed for `XDG_DATA_HOME`, but isn't an absolute path
+-- there is no search path if `HOME`, which is needed for the default of `XDG_DATA_HOME`, isn't an absolute path
 homeless : user_path (record unset { home = Some (codes "h"); config_home = Some (codes "/c") }) ≡ None
 unfolding user_path own_directory
 homeless = refl
 
--- values of `SYSTEMD_UNIT_PATH`, where `/u` and `/v` are the usual folders
+-- the search paths for five values of `SYSTEMD_UNIT_PATH`, if `/u` and `/v` are the usual folders
 given : map (λ value. given_path value (codes "/u" ∷ codes "/v" ∷ []))
     (codes "" ∷ codes ":" ∷ codes ":/a" ∷ codes "/a//b/:/:/a/b:../c" ∷ codes "/v/:" ∷ [])
     ≡ [] ∷ (codes "/u" ∷ codes "/v" ∷ []) ∷ (codes "/a" ∷ []) ∷ (codes "/a/b" ∷ codes "/" ∷ codes "/../c" ∷ [])

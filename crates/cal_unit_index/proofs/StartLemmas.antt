@@ -13,7 +13,7 @@ use Rattle.cal_unit_index.specs.declared.index.SearchFolder.{SearchFolder}
 use Rattle.cal_unit_index.specs.rules.Destinations.{listed, with_texts}
 use Rattle.cal_unit_index.specs.rules.SearchFolders.{IsListing, path_of}
 
--- the names listed in the index give the same results as those in the machine's folders
+-- the names that the index lists give the same results as the names in the machine's folders
 pub each_listing : {X : Type 0} (machine : Machine) (F : List (List ℕ) → List X) (folders : List SearchFolder) → All (IsListing machine) folders
     → flat_map (λ folder. F (map string_bytes folder.names.keys)) folders ≡ flat_map (λ folder. F (listed machine folder)) (map path_of folders)
 each_listing machine F [] all = refl
@@ -35,16 +35,16 @@ pub texts_more : (start before after xs ys : List (List ℕ)) → after ≡ with
 texts_more start before after xs ys added held =
     added ∙ ap (λ texts. with_texts texts ys) held ∙ sym (fold-append (insert_key (slice_cmp nat_cmp)) start xs ys)
 
--- if `before` is `start` with the texts that `F` gives for `xs`, and `after` also has those that it gives for `x`, then
--- `after` is `start` with the texts for `xs` and `x`
+-- if `before` is `start` with the texts that `F` returns for `xs`, and `after` also has those that it returns for `x`,
+-- then `after` is `start` with the texts for `xs` and `x`
 pub texts_of_more : {X Y : Type 0} (F : Y → List (List ℕ)) (view : X → Y) (start before after : List (List ℕ)) (xs : List X) (x : X)
     → after ≡ with_texts before (F (view x)) → before ≡ with_texts start (flat_map F (map view xs))
     → after ≡ with_texts start (flat_map F (map view (xs ++ x ∷ [])))
 texts_of_more F view start before after xs x added held =
     texts_more start before after (flat_map F (map view xs)) (F (view x)) added held ∙ ap (with_texts start) (flat_more F view xs x)
 
--- if `before` has the items that `F` gives for `xs`, and `after` also has those that it gives for `x`, then `after` has
--- the items for `xs` and `x`
+-- if `before` has the items that `F` returns for `xs`, and `after` also has those that it returns for `x`, then `after`
+-- has the items for `xs` and `x`
 pub items_of_more : {X Y Z : Type 0} (F : Y → List Z) (view : X → Y) (before after : List Z) (xs : List X) (x : X)
     → after ≡ before ++ F (view x) → before ≡ flat_map F (map view xs) → after ≡ flat_map F (map view (xs ++ x ∷ []))
 items_of_more F view before after xs x added held = added ∙ ap (λ ys. ys ++ F (view x)) held ∙ flat_more F view xs x

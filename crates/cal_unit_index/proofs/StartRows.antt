@@ -86,8 +86,9 @@ led_rows : started_on (in_lib (
 unfolding by_name file_stem instance_of is_stem listed_stem unit_kind_of unit_stem without_suffix walk
 led_rows = refl
 
--- In the first two rows, what is in `/etc` hides what has the same name in `/lib`; in the second one, it hides a mask.
--- In the third row, it doesn't hide what has the same name in a folder with another name.
+-- In the first two rows, an entry in `/etc` hides the entry with the same name in `/lib`; in the second row, the hidden
+-- entry is a mask. In the third row, an entry in `/etc` doesn't hide the entry with the same name in a folder with
+-- another name.
 hidden_rows : map started_on
     ((in_etc (masks (codes "a.timer") ∷ (codes "b.timer", File) ∷ []) ++ in_lib (starts (codes "a.timer") ∷ starts (codes "b.timer") ∷ starts (codes "c.timer") ∷ []))
     ∷ (in_lib (masks (codes "a.timer") ∷ []) ++ in_etc (starts (codes "a.timer") ∷ []))
@@ -104,7 +105,8 @@ linked target =
     in_folder (codes "/lib") timers (Link target) ∷ in_folder (codes "/lib") (codes "x") Folder
     ∷ in_folder (codes "/lib/x") (codes "a.timer") (Link (codes "/lib/a.timer")) ∷ []
 
--- a relative target of a wants folder has to lead from the root folder to a folder, too
+-- if a wants folder is a link with a relative target, the target has to lead to a folder from the root folder, too, and
+-- not only from `/lib`
 linked_rows : map started_on (linked (codes "/lib/x") ∷ linked (codes "x") ∷ linked (codes "../lib/x") ∷ []) ≡ (codes "a" ∷ []) ∷ [] ∷ (codes "a" ∷ []) ∷ []
 unfolding by_name file_stem instance_of is_stem listed_stem unit_kind_of unit_stem without_suffix walk
 linked_rows = refl
@@ -119,8 +121,9 @@ abbrev with_template : List ℕ → List Found
 with_template folder =
     in_folder (codes "/lib") folder Folder ∷ in_folder (codes "/lib/" ++ folder) (codes "t@.timer") (Link (codes "/lib/t@.timer")) ∷ []
 
--- The instance is that of the unit with the wants folder, or this unit's name without its suffix. The last four folders
--- are for many units.
+-- The link starts the instance that is named like the instance of the unit with the wants folder, or, if this unit
+-- isn't an instance, like the unit without its suffix. The last four folders are for many units, so the link starts
+-- nothing.
 template_rows : map (λ folder. started_on (with_template folder)) (codes "a.b.target.wants" ∷ codes "a@i.target.requires" ∷ codes "a-.target.wants" ∷ codes "a@.target.wants" ∷ codes "target.wants" ∷ codes ".wants" ∷ [])
     ≡ (codes "t@a.b" ∷ []) ∷ (codes "t@i" ∷ []) ∷ [] ∷ [] ∷ [] ∷ [] ∷ []
 unfolding by_name file_stem instance_of is_stem listed_stem unit_kind_of unit_stem without_suffix walk

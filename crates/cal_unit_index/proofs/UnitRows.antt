@@ -1,5 +1,5 @@
--- Examples that check the definitions of units and their names on small machines, after systemd.unit(5) and what systemd
--- 252 does. `/etc` is the more important of the two folders in the search path.
+-- Examples that check the definitions of units and their names on small machines, after systemd.unit(5) and what
+-- systemd 252 does. `/etc` is the more important of the two folders in the search path.
 use Rattle.std.proofs.Common.{◌≡◌, ◌++◌, ℕ, List, [], ◌∷◌, Result, Ok, Err, codes, map, refl, None, Some}
 use Rattle.std.specs.Map.{lookup}
 use Rattle.std.specs.Option.{unwrap_or}
@@ -54,9 +54,9 @@ plain =
     ∷ (codes "a.timer", Folder) ∷ (codes "b.service", File) ∷ [])
     ((codes "a.timer", File) ∷ (codes "e.timer", Empty) ∷ (codes "d.timer", Device) ∷ (codes ".h.timer", File) ∷ [])
 
--- The folder `/etc/a.timer` isn't a file of `a`. `b`, `c` and `r` are aliases of `a`, one of them through the folder
--- above. `l` is linked to a file outside the search path, whose name doesn't matter, and so is `m`. `n` is an alias of a
--- unit that doesn't exist. `.h` is hidden.
+-- The folder `/etc/a.timer` isn't a file of `a`. `b`, `c` and `r` are aliases of `a`, and the link of `r` has a target
+-- that begins with `..`. `l` and `m` are linked to files outside the search path, whose names don't matter. `n` is an
+-- alias of a unit that doesn't exist. `.h` is hidden.
 plain_units : map (unit_on plain path) (codes "a" ∷ codes "b" ∷ codes "c" ∷ codes "r" ∷ codes "l" ∷ codes "m" ∷ codes "n" ∷ codes "e" ∷ codes "d" ∷ codes "x" ∷ codes ".h" ∷ [])
     ≡ FoundAt (codes "/lib/a.timer") (codes "a") (codes "a") ∷ FoundAt (codes "/lib/a.timer") (codes "a") (codes "a")
     ∷ FoundAt (codes "/lib/a.timer") (codes "a") (codes "a") ∷ FoundAt (codes "/lib/a.timer") (codes "a") (codes "a")
@@ -65,7 +65,7 @@ plain_units : map (unit_on plain path) (codes "a" ∷ codes "b" ∷ codes "c" �
 unfolding walk after_prefix template_of listed_stem file_stem unit_stem without_suffix is_stem unit_kind_of instance_of
 plain_units = refl
 
--- the unit `a` has the same names, whichever of them is asked for
+-- the names of the unit `a` are the same whichever of them is asked for
 plain_names : map (names_for plain path) (codes "a" ∷ codes "c" ∷ codes "l" ∷ codes "n" ∷ [])
     ≡ (codes "a" ∷ codes "b" ∷ codes "c" ∷ codes "r" ∷ []) ∷ (codes "a" ∷ codes "b" ∷ codes "c" ∷ codes "r" ∷ []) ∷ (codes "l" ∷ []) ∷ [] ∷ []
 unfolding walk after_prefix template_of listed_stem file_stem unit_stem without_suffix is_stem unit_kind_of instance_of
@@ -87,8 +87,8 @@ rejected =
     ((codes "a.timer", File) ∷ (codes "s.timer", File) ∷ (codes "p.timer", File) ∷ (codes "i.timer", File) ∷ (codes "t@.timer", File) ∷ (codes "u@.timer", File)
     ∷ (codes "t@x.timer", File) ∷ (codes "t@y.timer", File) ∷ (codes "v.timer", File) ∷ [])
 
--- None of the links in `/etc` can be an alias: of itself, of another type, of another kind of name, of another instance or
--- of something that isn't the name of a unit. So the files in `/lib` count.
+-- None of the links in `/etc` can be an alias: they lead to the unit itself, to a unit of another type, to another kind
+-- of name, to another instance, or to something that isn't the name of a unit. So the files in `/lib` count.
 rejected_links : map (destination_in rejected path) (codes "a" ∷ codes "s" ∷ codes "p" ∷ codes "i" ∷ codes "t@" ∷ codes "u@" ∷ codes "t@x" ∷ codes "t@y" ∷ codes "v" ∷ [])
     ≡ Some (FileAt (codes "/lib/a.timer")) ∷ Some (FileAt (codes "/lib/s.timer")) ∷ Some (FileAt (codes "/lib/p.timer")) ∷ Some (FileAt (codes "/lib/i.timer"))
     ∷ Some (FileAt (codes "/lib/t@.timer")) ∷ Some (FileAt (codes "/lib/u@.timer")) ∷ Some (FileAt (codes "/lib/t@x.timer")) ∷ Some (FileAt (codes "/lib/t@y.timer"))
@@ -105,8 +105,8 @@ templates =
     ∷ (codes "bar@z.timer", File) ∷ [])
     ((codes "foo@.timer", File) ∷ (codes "foo@w.timer", File) ∷ [])
 
--- Instances without a file of their own have the file of their template; `foo@w` and `bar@z` have their own. `al@x` is an
--- alias of an instance by a link to its template, and `el@y` by a link to an instance that has no file.
+-- Instances without a file of their own have the file of their template; `foo@w` and `bar@z` have their own. `al@x` is
+-- an alias of an instance by a link to its template, and `el@y` by a link to an instance that has no file.
 instances : map (unit_on templates path) (codes "foo@" ∷ codes "foo@x" ∷ codes "bar@x" ∷ codes "al@x" ∷ codes "el@y" ∷ codes "foo@w" ∷ codes "bar@z" ∷ codes "al@z" ∷ [])
     ≡ TemplateOnly ∷ FoundAt (codes "/lib/foo@.timer") (codes "foo@") (codes "foo@x") ∷ FoundAt (codes "/lib/foo@.timer") (codes "foo@") (codes "foo@x")
     ∷ FoundAt (codes "/lib/foo@.timer") (codes "foo@") (codes "foo@x") ∷ FoundAt (codes "/lib/foo@.timer") (codes "foo@") (codes "foo@y")
@@ -114,9 +114,9 @@ instances : map (unit_on templates path) (codes "foo@" ∷ codes "foo@x" ∷ cod
 unfolding walk after_prefix template_of listed_stem file_stem unit_stem without_suffix is_stem unit_kind_of instance_of
 instances = refl
 
--- An instance has the same names, whichever is asked for. `al@x` and `el@y` are names of one instance each. `bar@w`
--- isn't a name of `foo@w`, which has a file of its own, and `bar@z` isn't a name of `foo@z`, because it has a file of
--- its own.
+-- The names of an instance are the same whichever of them is asked for. `al@x` is a name of `foo@x` only, and `el@y` of
+-- `foo@y` only. `bar@w` isn't a name of `foo@w`, because `foo@w` has a file of its own, and `bar@z` isn't a name of
+-- `foo@z`, because `bar@z` has a file of its own.
 instance_names : map (names_for templates path) (codes "bar@x" ∷ codes "foo@x" ∷ codes "el@y" ∷ codes "foo@w" ∷ codes "foo@z" ∷ codes "bar@z" ∷ [])
     ≡ (codes "foo@x" ∷ codes "al@x" ∷ codes "bar@x" ∷ []) ∷ (codes "foo@x" ∷ codes "al@x" ∷ codes "bar@x" ∷ [])
     ∷ (codes "foo@y" ∷ codes "bar@y" ∷ codes "el@y" ∷ []) ∷ (codes "foo@w" ∷ []) ∷ (codes "foo@z" ∷ []) ∷ (codes "bar@z" ∷ []) ∷ []
@@ -132,14 +132,14 @@ chain =
     ∷ (codes "e.timer", Link (codes "f.timer")) ∷ (codes "f.timer", Link (codes "g.timer")) ∷ (codes "g.timer", Link (codes "h.timer")) ∷ (codes "h.timer", Link (codes "i.timer")) ∷ [])
     ((codes "i.timer", File) ∷ [])
 
--- from `b`, 7 links lead to a file, but from `a` there are 8
+-- from `b`, a chain of 7 links leads to a file; from `a`, the chain has 8 links, which is one too many
 links : map (unit_on chain path) (codes "b" ∷ codes "a" ∷ []) ≡ FoundAt (codes "/lib/i.timer") (codes "i") (codes "i") ∷ TooManyAliases ∷ []
 unfolding walk after_prefix template_of listed_stem file_stem unit_stem without_suffix is_stem unit_kind_of instance_of
 links = refl
 
 -- ## What can't be read
 
--- `/etc` can't be listed, and `/lib/b.timer` can't be looked at
+-- the names in `/etc` can't be listed, and it can't be found out what is at `/lib/b.timer`
 abbrev unreadable : Machine
 unreadable =
     let found = machine [] ((codes "b.timer", File) ∷ (codes "a.timer", File) ∷ (codes "b.service", File) ∷ []) in
@@ -154,7 +154,7 @@ faults : unreadable_in unreadable path ≡ unreadable_fault (codes "/etc") Faile
 unfolding walk after_prefix template_of listed_stem file_stem unit_stem without_suffix is_stem unit_kind_of instance_of
 faults = refl
 
--- what can be read is still found
+-- units whose files can be read are still found
 others : map (unit_on unreadable path) (codes "a" ∷ codes "b" ∷ []) ≡ FoundAt (codes "/lib/a.timer") (codes "a") (codes "a") ∷ Unfound ∷ []
 unfolding walk after_prefix template_of listed_stem file_stem unit_stem without_suffix is_stem unit_kind_of instance_of
 others = refl

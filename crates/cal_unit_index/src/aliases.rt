@@ -25,11 +25,11 @@ pub(crate) struct Alias {
     pub unit: String,
 }
 
-/// Returns all aliases, in the order of the folders, and sorted by name in each. An alias whose name is in several
-/// folders is in the list several times.
+/// Returns all aliases, in the order of the folders, and sorted by name in each folder. If several folders have the
+/// name of an alias, the alias is in the list several times.
 ///
-/// systemd leaves out an alias whose unit is masked. It isn't left out here, because that is only known once the unit's
-/// file is read.
+/// systemd leaves out an alias whose unit is masked. Such an alias isn't left out here, since whether a unit is masked
+/// is only known once its file is read.
 pub(crate) fn find_aliases(alloc: Global, index: &UnitIndex) -> Result<Vec<Alias>, AllocError>
     ensures { IfOk result (λ aliases. map shown_alias aliases.items
         ≡ flat_map (λ folder. aliases_named (destination_of index.now) folder.names) (map shown_folder index.now.folders.items)) }
@@ -41,7 +41,7 @@ pub(crate) fn find_aliases(alloc: Global, index: &UnitIndex) -> Result<Vec<Alias
     Ok(aliases)
 }
 
-/// Appends the aliases with the names in this folder.
+/// Appends the aliases whose names are in this folder.
 fn push_aliases(
     alloc: Global,
     aliases: &mut Vec<Alias>,
@@ -114,7 +114,7 @@ pub(crate) fn find_unit_names(
     Ok(names)
 }
 
-/// Adds the units with the names in this folder.
+/// Adds the stems in this folder that lead to a file or an alias and aren't those of templates.
 fn add_units(
     alloc: Global,
     names: &mut BTreeSet<String>,
@@ -130,7 +130,7 @@ fn add_units(
     Ok(())
 }
 
-/// Adds the unit with this stem, if there is one.
+/// Adds this stem if it leads to a file or an alias and isn't that of a template.
 fn add_unit(
     alloc: Global,
     names: &mut BTreeSet<String>,

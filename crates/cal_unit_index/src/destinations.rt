@@ -11,20 +11,21 @@ use crate::unit_name::{file_stem, may_lead};
 use cal_machine::{Entry, Last, Tree, TreeFault, after_prefix, find_place, look_at};
 use std::alloc::{AllocError, Global};
 
-/// Where a name leads.
+/// Where the name of a unit leads.
 #[derive(Debug, Drop)]
 pub(crate) enum Destination {
-    /// To its unit's file at this path, which can be a link.
+    /// To the file of the unit with this name. The file is at this path, and can be a link.
     File(String),
     /// To the unit with this stem, of which it is an alias.
     Alias(String),
 }
 
-/// Returns where a stem leads according to this folder of the search path. Returns `None` if what is at the stem's path
-/// in the folder isn't the file of a unit.
+/// Returns where a stem leads according to this folder of the search path. Returns `None` if nothing that can be a
+/// unit's file or an alias is at the stem's path in the folder.
 ///
-/// A link that leads into the search path is an alias of the unit with the name at the end of the path to which it
-/// leads. If it can't be an alias of this unit, it leads nowhere. Any other link is itself the unit's file.
+/// A link that leads into the search path stands for an alias of the unit whose name is the last part of the path to
+/// which the link leads. If the link can't be an alias of this unit, the stem leads nowhere. A link that leads out of
+/// the search path is itself the unit's file.
 pub(crate) fn find_destination<T: Tree>(
     alloc: Global,
     tree: &mut T,
@@ -108,8 +109,8 @@ fn is_below(place: &str, folder: &str) -> bool
     }
 }
 
-/// Returns the stem of the unit of which `stem` is an alias, if a link with this stem leads to `place`, which is in the
-/// search path. Returns `None` if the link can't be an alias.
+/// Returns the stem of the unit of which a link with the stem `stem` is an alias. The link leads to `place`, which is
+/// in the search path. Returns `None` if the link can't be an alias.
 fn alias_of<'p>(alloc: Global, stem: &str, place: &'p str) -> Result<Option<&'p str>, AllocError>
     ensures { IfOk result (λ other. option_map (λ other. other.now) other ≡ alias_of stem.now place.now) }
 {
@@ -130,7 +131,7 @@ fn last_part(alloc: Global, path: &str) -> Result<&str, AllocError>
     }
 }
 
-/// Returns the path to which a link's target leads, if the link is in this folder.
+/// Returns the path to which a link in this folder leads if its target is `target`.
 fn target_path(alloc: Global, folder: &str, target: &str) -> Result<String, AllocError>
     ensures { IfOk result (λ path. string_bytes path ≡ target_path folder.now target.now) }
 {

@@ -40,8 +40,8 @@ pub(crate) fn push_candidates(
     Ok(())
 }
 
-/// Returns the paths of the drop-ins that count, sorted by the bytes of their file names. Of several drop-ins with the
-/// same name, only the last counts, so `found` has to be sorted from the least important folder to the most important
+/// Returns the paths of the drop-ins that count, sorted by the bytes of their file names. Only the last of several
+/// drop-ins with the same name counts, so `found` must be sorted from the least important folder to the most important
 /// one.
 #[tactic(auto, using(crate::proofs::DropInLemmas::paths_are))]
 pub(crate) fn choose(alloc: Global, found: Vec<DropIn>) -> Result<Vec<String>, AllocError>

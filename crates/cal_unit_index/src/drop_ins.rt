@@ -19,17 +19,18 @@ use std::alloc::{AllocError, Global};
 /// The drop-ins of a unit.
 #[derive(Debug, Drop)]
 pub struct DropIns {
-    /// Their paths, in the order in which they are read.
+    /// The paths of the drop-ins, in the order in which they are read.
     pub paths: Vec<String>,
     /// The drop-in folders that can't be read.
     pub unread: Vec<UnitFault>,
 }
 
-/// Returns the drop-ins of a unit of this type that count, in the order in which they are read (systemd.unit(5), Description).
+/// Returns the drop-ins that count for a unit of this type, in the order in which they are read (systemd.unit(5),
+/// Description).
 ///
-/// `names` are the stems of all names of the unit, its own first, as [`crate::names_of`] returns them. Of several drop-ins
-/// with the same file name, only the one in the most important folder counts, whatever it is. Fails only if allocation
-/// fails.
+/// `names` are the stems of all names of the unit, its own first, as [`crate::names_of`] returns them. Of several
+/// drop-ins with the same file name, only the one in the most important folder counts, whether it is a file or not.
+/// Fails only if allocation fails.
 pub fn find_drop_ins<T: Tree>(
     alloc: Global,
     tree: &mut T,

@@ -1,4 +1,4 @@
-//! Paths of a unit's files and folders that can't be used.
+//! Errors about the paths of a unit's files and folders.
 
 ghost use Rattle.std.specs.Prelude.{◌≡◌, IfOk};
 ghost use Rattle.cal_unit_index.specs.rules.Index.{shown_fault};

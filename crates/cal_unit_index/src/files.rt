@@ -28,13 +28,13 @@ pub struct UnitText {
 pub enum FileRead {
     /// An empty file or a device, or a link to one: it masks the unit.
     Mask,
-    /// Nothing that can be used, for this reason.
+    /// Nothing usable, for this reason.
     Unusable(Reason),
     /// A file with this text, at most 1,048,576 bytes.
     Text(Vec<u8>),
 }
 
-/// The texts of a unit's drop-ins.
+/// The drop-ins of a unit that were read, and errors about those that couldn't be read.
 #[derive(Debug, Drop)]
 pub struct DropInTexts {
     /// The drop-ins that were read, in their order. Empty files, folders, devices and links to nothing are skipped.
@@ -84,7 +84,8 @@ pub fn read_drop_ins<T: Tree>(
 }
 
 impl DropInTexts {
-    /// Reads the drop-in at a path and appends it, or appends why it is lost.
+    /// Reads the drop-in at a path and appends it, or appends an error if it can't be read. Appends nothing for an
+    /// empty file, a folder, a device or a link to nothing.
     fn push<T: Tree>(&mut self, alloc: Global, tree: &mut T, path: &str) -> Result<(), AllocError>
         ensures known { OnOk result ((machine : Machine) → T.shows tree.new machine
             → (map shown_unit_text self.new.texts.items ≡ map shown_unit_text self.old.texts.items ++ text_at machine path.now)

@@ -13,7 +13,7 @@ use crate::unit_type::UnitType;
 use cal_machine::{Entry, Last, Place, Tree, TreeFault, find_place, look_at};
 use std::alloc::{AllocError, Global};
 
-/// Returns the drop-in folders that are read for a unit of this type, from the least important one to the most important one.
+/// Returns the drop-in folders that are read for a unit of this type, from the least important to the most important.
 ///
 /// `path` has the folders of the search path, the most important first, and `stems` the stems of all names of the unit,
 /// its own first. Fails only if allocation fails.
@@ -43,7 +43,7 @@ pub(crate) fn folders_of<T: Tree>(
     Ok(folders)
 }
 
-/// Returns the items in reverse. `items` has the most important one first, and the result has it last.
+/// Returns the items in reverse order: the most important item, which is the first of `items`, comes last.
 #[tactic(auto, using(crate::proofs::FolderLemmas::map_reverse))]
 pub(crate) fn reversed<T>(alloc: Global, items: &[T]) -> Result<Vec<&T>, AllocError>
     ensures { IfOk result (λ reversed. map (λ item. item.now) reversed.items ≡ reverse items.now) }
@@ -111,7 +111,7 @@ fn push_stem_folders<T: Tree>(
     push_folders(alloc, tree, folders, roots, names.as_slice())
 }
 
-/// Appends the drop-in folders with these names that are read, below each of these folders of the search path.
+/// Appends the drop-in folders that have these names, are below one of these folders of the search path, and are read.
 pub(crate) fn push_folders<T: Tree>(
     alloc: Global,
     tree: &mut T,
@@ -131,7 +131,7 @@ pub(crate) fn push_folders<T: Tree>(
     Ok(())
 }
 
-/// Appends the drop-in folders with these names that are read, below one folder of the search path.
+/// Appends the drop-in folders that have these names, are below this folder of the search path, and are read.
 fn push_below<T: Tree>(
     alloc: Global,
     tree: &mut T,
@@ -173,8 +173,8 @@ fn push_folder<T: Tree>(
     Ok(())
 }
 
-/// Returns whether the drop-in folder at a path is read. A path that can't be looked at counts as read, so that this is
-/// reported when the folder is listed.
+/// Returns whether the drop-in folder at a path is read. If the path can't be examined, the result is `true`, so that
+/// the error is found when the folder is listed.
 fn is_followed<T: Tree>(alloc: Global, tree: &mut T, path: &str) -> Result<bool, AllocError>
     ensures known { IfOk result (λ is. (machine : Machine) → T.shows tree.new machine
         → is ≡ is_followed machine (entry_at machine path.now)) }
@@ -219,8 +219,8 @@ fn path_in(alloc: Global, folder: &str, name: &str) -> Result<String, AllocError
     Ok(format!(in alloc; "{folder}/{name}")?)
 }
 
-/// Returns the names of the drop-in folders that apply to the unit of this type with this stem, from the least important
-/// one to the most important one.
+/// Returns the names of the drop-in folders that apply to the unit of this type with this stem, from the least
+/// important to the most important.
 fn folder_names(alloc: Global, unit_type: UnitType, stem: &str) -> Result<Vec<String>, AllocError>
     ensures { IfOk result (λ names. map string_bytes names.items ≡ map (folder_name unit_type) (folder_stems stem.now)) }
 {
@@ -238,8 +238,8 @@ fn folder_name(alloc: Global, unit_type: UnitType, stem: &str) -> Result<String,
     Ok(format!(in alloc; "{stem}{suffix}.d")?)
 }
 
-/// Returns the stems whose drop-in folders apply to the unit with this stem, from the least important one to the most
-/// important one. For `foo-bar@x`, these are `foo-@`, `foo-@x`, `foo-`, `foo-bar@` and `foo-bar@x`.
+/// Returns the stems whose drop-in folders apply to the unit with this stem, from the least important to the most
+/// important. For `foo-bar@x`, these are `foo-@`, `foo-@x`, `foo-`, `foo-bar@` and `foo-bar@x`.
 #[tactic(auto, unfolding(crate::specs::rules::Folders::folder_stems))]
 pub(crate) fn folder_stems(alloc: Global, stem: &str) -> Result<Vec<String>, AllocError>
     ensures { IfOk result (λ stems. map string_bytes stems.items ≡ folder_stems stem.now) }
@@ -257,7 +257,8 @@ pub(crate) fn folder_stems(alloc: Global, stem: &str) -> Result<Vec<String>, All
     Ok(stems)
 }
 
-/// Returns each prefix as a template and as an instance, if the stem is that of an instance.
+/// Returns `PREFIX@` and `PREFIX@INSTANCE` for each prefix if the stem is that of an instance, and otherwise an empty
+/// list.
 fn prefix_instances(
     alloc: Global,
     stem: &str,
@@ -278,7 +279,7 @@ fn prefix_instances(
     Ok(stems)
 }
 
-/// Appends the template and the instance that begin with `prefix`, where `stem` is the stem of an instance.
+/// Appends `PREFIX@` and `PREFIX@INSTANCE` for this prefix. `stem` is the stem of the instance.
 fn push_with_prefix(
     alloc: Global,
     stems: &mut Vec<String>,

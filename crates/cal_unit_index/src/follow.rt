@@ -24,12 +24,12 @@ pub(crate) enum End<'i> {
         /// The stem under which the file was found.
         stem: &'i str,
     },
-    /// Not within the allowed number of aliases.
+    /// The end isn't reached within the allowed number of aliases.
     Endless,
 }
 
-/// Returns where following aliases from a stem ends. If that is nowhere, and the stem is an instance, returns where
-/// following from its template ends.
+/// Returns where following aliases from a stem ends. If it ends nowhere and the stem is an instance, returns where
+/// following aliases from its template ends.
 pub(crate) fn following_unit<'i>(index: &'i UnitIndex, stem: &'i str) -> End<'i>
     ensures { shown_end result ≡ following_unit (destination_of index.now) stem.now }
 {
@@ -72,8 +72,8 @@ fn follow<'i>(index: &'i UnitIndex, count: usize, stem: &'i str) -> End<'i>
     }
 }
 
-/// Returns the stem by which the target of an alias is looked up: its own, or its template's if it is the stem of an
-/// instance that leads nowhere.
+/// Returns the stem by which the target of an alias is looked up: the target's own stem or, if this leads nowhere and
+/// is an instance, the stem of its template.
 fn looked_up<'i>(index: &UnitIndex, stem: &'i str) -> &'i str
     ensures { result.now ≡ looked_up (destination_of index.now) stem.now }
 {

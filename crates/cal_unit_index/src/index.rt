@@ -32,7 +32,7 @@ pub struct SearchFolder {
 }
 
 impl SearchFolder {
-    /// Returns whether the folder has something with this name. It has no names if it can't be read.
+    /// Returns whether the folder has something with this name. Returns `false` if the folder can't be read.
     pub fn has(&self, name: &str) -> bool
         ensures { result ≡ is_among (map string_bytes self.now.names.keys) name.now }
     {
@@ -41,8 +41,8 @@ impl SearchFolder {
 }
 
 impl UnitIndex {
-    /// Reads the folders of a search path, which has the most important folder first. Looks at each name of a timer in
-    /// them once. What can't be read is in [`UnitIndex::unreadable`].
+    /// Reads the folders of a search path, which has the most important folder first. Each name of a timer in them is
+    /// examined once. What can't be read is in [`UnitIndex::unreadable`].
     ///
     /// Fails only if allocation fails.
     pub fn read<T: Tree>(
@@ -70,8 +70,8 @@ impl UnitIndex {
         find_unit_names(alloc, self)
     }
 
-    /// Returns what can't be read, in the order of the search path: folders, and in the other folders the files of
-    /// timers and links whose targets can't be followed. Nothing else is missing from the index.
+    /// Returns the paths that can't be read, in the order of the search path: folders of the search path and, in those
+    /// that can be read, files of timers and links that can't be followed. Nothing else is missing from the index.
     pub fn unreadable(&self) -> &[UnitFault]
         ensures { result.now ≡ self.now.unreadable.items }
     {

@@ -1,6 +1,6 @@
-//! Which timers the names of links in wants folders stand for (systemd.unit(5), Description). A stem is a unit's name
-//! without its suffix `.timer`. A wants folder is a folder `NAME.wants` or `NAME.requires` below a folder of the search
-//! path.
+//! Which timers links in wants folders start, by the names of the links (systemd.unit(5), Description). A stem is a
+//! unit's name without its suffix `.timer`. A wants folder is a folder `NAME.wants` or `NAME.requires` below a folder
+//! of the search path.
 
 ghost use Rattle.std.specs.Prelude.{◌≡◌, IfOk, option_map, string_bytes};
 ghost use Rattle.cal_unit_index.specs.rules.Starts.{before_dot, if_stem, instance_in, instantiated, linked_stem};
@@ -8,8 +8,8 @@ ghost use Rattle.cal_unit_index.specs.rules.Starts.{before_dot, if_stem, instanc
 use crate::unit_name::{UnitKind, instance_of, is_stem, is_template, listed_stem, unit_kind_of};
 use std::alloc::{AllocError, Global};
 
-/// Returns the stem of the timer that a link with this name starts, wherever it leads, in a wants folder with the name
-/// `folder`. The name of a template stands for an instance of it.
+/// Returns the stem of the timer that a link with this name starts in a wants folder with the name `folder`, wherever
+/// the link leads. A link with the name of a template starts an instance of the template.
 pub(crate) fn linked_stem(
     alloc: Global,
     folder: &str,
@@ -24,7 +24,7 @@ pub(crate) fn linked_stem(
     }
 }
 
-/// Returns the stem of a template with this instance.
+/// Returns the stem of the instance of a template with this instance name.
 fn instantiated(
     alloc: Global,
     template: &str,
@@ -49,7 +49,7 @@ fn if_stem(stem: String) -> Option<String>
     }
 }
 
-/// Returns the instance that links in a wants folder with this name give to templates. Returns `None` if the
+/// Returns the instance name for templates that are linked in a wants folder with this name. Returns `None` if the
 /// folder can belong to several units.
 fn instance_in(folder: &str) -> Option<&str>
     ensures { option_map (λ instance. instance.now) result ≡ instance_in folder.now }

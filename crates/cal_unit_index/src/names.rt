@@ -21,9 +21,10 @@ use std::collections::BTreeSet;
 
 /// Returns the stems of all names of a unit: its own, and then the others, sorted by their bytes, each once.
 ///
-/// `file` is what [`crate::find_unit`] found for the stem `asked`. The other names are `asked` and those that aliases
-/// give to the unit. An alias that is a template gives its name with the unit's instance, unless that name leads to
-/// another file. An alias that is an instance gives its name only to the same instance.
+/// `file` is what [`crate::find_unit`] found for the stem `asked`. The other names are `asked` and the names that
+/// aliases give to the unit. An alias that is a template gives the unit the alias's name with the unit's instance,
+/// unless this name leads to another file. An alias that is an instance gives its name only to a unit with the same
+/// instance.
 ///
 /// Fails only if allocation fails.
 pub fn names_of(
@@ -113,7 +114,7 @@ fn add_given(
     Ok(())
 }
 
-/// Returns the name that an alias of the unit's file gives to a unit.
+/// Returns the name that an alias gives to the unit with this file, if there is one.
 fn name_given(
     alloc: Global,
     index: &UnitIndex,
@@ -143,7 +144,7 @@ fn unless_elsewhere(index: &UnitIndex, file: &str, name: String) -> Option<Strin
     Some(name)
 }
 
-/// Returns whether following aliases ended at a file, but not at the one that was found under the stem `file`.
+/// Returns whether following aliases ended at a file, but not at the file that was found under the stem `file`.
 fn is_elsewhere(file: &str, found: End<'_>) -> bool
     ensures { result ≡ is_elsewhere file.now (shown_end found.entry) }
 {

@@ -27,7 +27,7 @@ pub(crate) fn all_texts(alloc: Global, path: &[String]) -> Result<Vec<&str>, All
     Ok(texts)
 }
 
-/// Returns the plain paths of the folders ([`plain_path`]), each only where it occurs first.
+/// Returns the plain paths of the folders ([`plain_path`]) without duplicates, each at its first position.
 #[tactic(auto, unfolding(crate::specs::rules::SearchPath::each_once))]
 pub(crate) fn each_once(alloc: Global, folders: &[&str]) -> Result<Vec<String>, AllocError>
     ensures { IfOk result (λ path. map string_bytes path.items ≡ each_once (map (λ folder. folder.now) folders.now)) }
@@ -39,7 +39,7 @@ pub(crate) fn each_once(alloc: Global, folders: &[&str]) -> Result<Vec<String>, 
     Ok(path)
 }
 
-/// Appends the folder, unless the path has it already.
+/// Appends the folder to a search path, unless the search path has it already.
 fn push_once(path: &mut Vec<String>, folder: String) -> Result<(), AllocError>
     ensures { OnOk result (map string_bytes path.new.items ≡ with_folder (map string_bytes path.old.items) (string_bytes folder)) }
 {
@@ -55,8 +55,8 @@ fn has_folder(path: &[String], folder: &str) -> bool
     path.iter().any(|known| folder == known.as_str())
 }
 
-/// Returns the path with one slash before each part, without parts that are empty or `.`. A relative path is taken as
-/// relative to the root folder, in which systemd's managers run.
+/// Returns the path with one slash before each part, without parts that are empty or `.`, or `/` if no part is left. A
+/// relative path is taken as relative to the root folder, in which systemd's managers run.
 #[tactic(auto, unfolding(crate::specs::rules::SearchPath::plain_path))]
 fn plain_path(alloc: Global, path: &str) -> Result<String, AllocError>
     ensures { IfOk result (λ plain. string_bytes plain ≡ plain_path path.now) }

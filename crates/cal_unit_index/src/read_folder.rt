@@ -16,8 +16,8 @@ use cal_machine::{Tree, TreeFault, Unreadable, names_at};
 use std::alloc::{AllocError, Global};
 use std::collections::{BTreeMap, BTreeSet};
 
-/// Enters a folder of the search path in the index: its names, and where the timers in it lead. A timer that has a
-/// destination already keeps it.
+/// Enters a folder of the search path in the index: the names in it, and where the timers among them lead. A timer that
+/// already has a destination keeps it.
 pub(crate) fn read_folder<T: Tree>(
     alloc: Global,
     tree: &mut T,
@@ -39,7 +39,7 @@ pub(crate) fn read_folder<T: Tree>(
     Ok(())
 }
 
-/// Returns the names in a folder. If it can't be read, appends the fault and returns no names.
+/// Returns the names in a folder. If the folder can't be read, appends the error to `unreadable` and returns no names.
 fn list_folder<T: Tree>(
     alloc: Global,
     tree: &mut T,
@@ -75,7 +75,7 @@ fn push_unreadable(
     Ok(())
 }
 
-/// Enters in the index where the timers with these names in a folder lead.
+/// Enters in the index where the timers with these names lead according to a folder.
 fn read_names<T: Tree>(
     alloc: Global,
     tree: &mut T,
@@ -92,7 +92,7 @@ fn read_names<T: Tree>(
     read_stems(alloc, tree, path, folder, stems.as_slice(), index)
 }
 
-/// Enters in the index where the timers with these stems in a folder lead.
+/// Enters in the index where the timers with these stems lead according to a folder.
 fn read_stems<T: Tree>(
     alloc: Global,
     tree: &mut T,
@@ -111,7 +111,8 @@ fn read_stems<T: Tree>(
     Ok(())
 }
 
-/// Enters in the index where the timer with this stem in a folder leads, or that its file can't be read.
+/// Enters in the index where the timer with this stem leads according to a folder, or that the timer's file can't be
+/// read.
 fn read_stem<T: Tree>(
     alloc: Global,
     tree: &mut T,

@@ -9,7 +9,7 @@ use crate::paths::{all_texts, each_once, paths_in};
 use std::alloc::{AllocError, Global};
 
 /// The variables of the environment that count for the search path of a user's manager. A variable that isn't set is
-/// `None`; one that is set but empty is not.
+/// `None`, and one that is set but empty is an empty text.
 #[derive(Clone, Copy, Debug)]
 pub struct UserVariables<'a> {
     /// `HOME`, the user's home.
@@ -22,7 +22,7 @@ pub struct UserVariables<'a> {
     pub data_home: Option<&'a str>,
     /// `XDG_DATA_DIRS`, the directories with data that all users share, separated by colons.
     pub data_dirs: Option<&'a str>,
-    /// `XDG_RUNTIME_DIR`, the user's directory until the user logs out.
+    /// `XDG_RUNTIME_DIR`, the user's directory for files that are kept only until the user logs out.
     pub runtime_dir: Option<&'a str>,
 }
 
@@ -33,7 +33,7 @@ struct Directories<'a> {
     config_home: &'a str,
     /// The user's own directory for data.
     data_home: &'a str,
-    /// The user's own directory until the user logs out, if there is one.
+    /// The user's own directory for files that are kept only until the user logs out, if there is one.
     runtime_dirs: &'a [&'a str],
     /// The directories with configuration that all users share.
     config_dirs: &'a [&'a str],
@@ -83,8 +83,8 @@ pub fn user_path(
     Ok(Some(path))
 }
 
-/// Returns the search path of a manager if the variable `SYSTEMD_UNIT_PATH` has this value: the paths in it, followed
-/// by the folders of `usual`, the manager's usual search path, if it ends with a colon.
+/// Returns the search path of a manager if the variable `SYSTEMD_UNIT_PATH` has this value: the paths in the value and,
+/// if the value ends with a colon, the folders of `usual`, the manager's usual search path.
 #[tactic(auto, unfolding(crate::specs::rules::SearchPath::given_path))]
 pub fn given_path(alloc: Global, value: &str, usual: &[String]) -> Result<Vec<String>, AllocError>
     ensures { IfOk result (λ path. map string_bytes path.items ≡ given_path value.now (map string_bytes usual.now)) }
@@ -108,8 +108,8 @@ fn given_folders<'a>(
     Ok(folders)
 }
 
-/// Returns the value of a variable or, if it isn't set, `home` followed by `name`. Returns `None` if that isn't
-/// possible, because `home` isn't an absolute path.
+/// Returns the value of a variable or, if it isn't set, `home` followed by `name`. Returns `None` if `home` is needed
+/// but isn't an absolute path.
 #[tactic(auto, unfolding(crate::specs::rules::SearchPath::own_directory))]
 fn own_directory(
     alloc: Global,
@@ -129,7 +129,7 @@ fn own_directory(
     }
 }
 
-/// Returns the search path of a user's manager, where `config_home` and `data_home` are the user's own directories.
+/// Returns the search path of a user's manager. `config_home` and `data_home` are the user's own directories.
 fn path_in(
     alloc: Global,
     config_home: &str,
@@ -202,8 +202,7 @@ fn user_folders(alloc: Global, directories: Directories<'_>) -> Result<Vec<Strin
     folders_at(alloc, &places)
 }
 
-/// Returns `DIRECTORY/systemd/NAME` for each item of `places`, which has directories and a name, and for each of its
-/// directories.
+/// Returns `DIRECTORY/systemd/NAME` for each directory in each item of `places`. An item has directories and one name.
 fn folders_at(alloc: Global, places: &[(&[&str], &str)]) -> Result<Vec<String>, AllocError>
     ensures { IfOk result (λ folders. map string_bytes folders.items ≡ flat_map folders_at (map shown_place places.now)) }
 {

@@ -28,23 +28,24 @@ use std::collections::{BTreeMap, BTreeSet};
 /// The timers that other units start.
 #[derive(Debug, Drop)]
 pub struct Started {
-    /// The stems of the timers. Whether these timers exist isn't examined.
+    /// The stems of the timers, which need not exist.
     pub stems: BTreeSet<String>,
-    /// The folders `NAME.wants` and `NAME.requires` that can't be read, sorted by name. Folders with the same name go
-    /// from the least important one to the most important one.
+    /// The folders `NAME.wants` and `NAME.requires` that can't be read, sorted by name. Those with the same name are
+    /// sorted from the least important to the most important.
     pub unreadable: Vec<UnitFault>,
 }
 
-/// Returns the timers that other units start, on a machine with the search path of this index: those with a link of their
-/// name in a folder `NAME.wants` or `NAME.requires` below a folder of the search path, whatever unit `NAME` is
-/// (systemd.unit(5), Description).
+/// Returns the timers that other units start, on a machine with the search path of this index. A timer is started by a
+/// link with its name in a folder `NAME.wants` or `NAME.requires` below a folder of the search path, whatever unit
+/// `NAME` is (systemd.unit(5), Description).
 ///
 /// Where a link leads doesn't matter, except that a link to an empty file or to a device, such as `/dev/null`, starts
 /// nothing. Of several files or links with the same name in folders with the same name, only the one in the most
 /// important folder of the search path counts, even if it starts nothing.
 ///
-/// The name of a template starts an instance of it: that of `NAME`, or `NAME` itself without its suffix. It is left out
-/// if `NAME` doesn't stand for one unit, as in `target.wants`, `a-.target.wants` and `a@.target.wants`.
+/// A link with the name of a template starts an instance of the template: the one with the instance name of `NAME` or,
+/// if `NAME` isn't an instance, with `NAME` without its suffix. The link starts nothing if `NAME` doesn't stand for one
+/// unit, as in `target.wants`, `a-.target.wants` and `a@.target.wants`.
 ///
 /// Fails only if allocation fails.
 pub fn find_started<T: Tree>(
@@ -137,8 +138,7 @@ fn is_wants_name(name: &str) -> bool
 }
 
 /// Adds the timers that are started by the wants folders with this name, and appends the wants folders that can't be
-/// read to `unreadable`. `roots` has the folders of the search path, from the least important one to the most important
-/// one.
+/// read to `unreadable`. `roots` has the folders of the search path, from the least important to the most important.
 fn add_named<T: Tree>(
     alloc: Global,
     tree: &mut T,
@@ -222,8 +222,8 @@ fn push_named(
     Ok(())
 }
 
-/// Adds the timers that are started by these files in wants folders with the name `folder`. The files are given by their
-/// names and paths.
+/// Adds the timers that are started by these files in wants folders with the name `folder`. `files` maps their names to
+/// their paths.
 fn add_started<T: Tree>(
     alloc: Global,
     tree: &mut T,
@@ -242,7 +242,7 @@ fn add_started<T: Tree>(
     Ok(())
 }
 
-/// Adds the timer that is started by the file with this name and path, if it starts one, in a wants folder with the name
+/// Adds the timer, if there is one, that the file with this name and path starts in a wants folder with the name
 /// `folder`.
 fn add_stem<T: Tree>(
     alloc: Global,
@@ -265,8 +265,8 @@ fn add_stem<T: Tree>(
     Ok(())
 }
 
-/// Returns whether what is at a path in a wants folder starts a timer, which only links do. What can't be examined counts
-/// as a link, since it most likely is one, for example with a target that isn't UTF-8.
+/// Returns whether what is at a path in a wants folder starts a timer, which only links do. Something that can't be
+/// examined counts as a link, since it most likely is one, for example with a target that isn't UTF-8.
 fn is_start<T: Tree>(alloc: Global, tree: &mut T, path: &str) -> Result<bool, AllocError>
     ensures known { IfOk result (λ is. (machine : Machine) → T.shows tree.new machine
         → is ≡ is_start machine path.now (entry_at machine path.now)) }
@@ -280,8 +280,8 @@ fn is_start<T: Tree>(alloc: Global, tree: &mut T, path: &str) -> Result<bool, Al
     }
 }
 
-/// Returns whether the link at a path starts a timer: not if it leads to an empty file or a device. As in systemd, a link
-/// that can't be followed starts the timer.
+/// Returns whether the link at a path starts a timer. It does unless it leads to an empty file or a device. As in
+/// systemd, a link that can't be followed starts the timer.
 fn is_unmasked<T: Tree>(alloc: Global, tree: &mut T, path: &str) -> Result<bool, AllocError>
     ensures known { IfOk result (λ is. (machine : Machine) → T.shows tree.new machine
         → is ≡ is_unmasked (end_at machine path.now)) }

@@ -39,10 +39,10 @@ pub enum Unit {
 
 /// Finds the unit with this stem in the index of a search path.
 ///
-/// A name leads to the first file or link with this name in the folders of the search path that can be a unit's.
-/// Anything else is skipped, such as a folder or a link that can't be an alias. If the name is an alias, the unit is
-/// the one to which the alias leads. If it leads to an instance without a file of its own, or if the name is that of an
-/// instance and leads nowhere, its template's file is the unit's file.
+/// A name leads to the first file or link with this name, in the folders of the search path, that can be the file of a
+/// unit or an alias. Anything else is skipped, such as a folder or a link that can't be an alias. If the name is an
+/// alias, the unit is the one to which the alias leads. If the name or the alias leads to an instance without a file of
+/// its own, the file of the instance's template is the unit's file.
 ///
 /// Fails only if allocation fails.
 pub fn find_unit(alloc: Global, index: &UnitIndex, stem: &str) -> Result<Unit, AllocError>
@@ -76,7 +76,7 @@ fn unit_from(alloc: Global, stem: &str, found: End<'_>) -> Result<Unit, AllocErr
     }
 }
 
-/// Returns the unit's own stem, if the unit was asked for by `stem`, and its file was found under the stem `file`.
+/// Returns the unit's own stem. The unit was asked for by `stem`, and its file was found under the stem `file`.
 fn own_stem(alloc: Global, file: &str, stem: &str) -> Result<String, AllocError>
     ensures { IfOk result (λ own. string_bytes own ≡ own_stem file.now stem.now) }
 {

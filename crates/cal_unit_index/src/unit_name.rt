@@ -46,8 +46,8 @@ pub(crate) fn file_stem(name: &str) -> Option<&str>
     unit_stem(name)
 }
 
-/// Returns the stem of the timer to which a file with this name in a folder of the search path can belong. Hidden files
-/// are left out.
+/// Returns the stem of the timer to which a file with this name in a folder of the search path can belong. Returns
+/// `None` for a hidden file, or if the name isn't the valid name of a timer.
 #[tactic(auto, unfolding(crate::specs::rules::UnitName::listed_stem))]
 pub(crate) fn listed_stem(name: &str) -> Option<&str>
     ensures { option_map (λ stem. stem.now) result ≡ listed_stem name.now }
@@ -79,8 +79,9 @@ pub(crate) fn is_template(stem: &str) -> bool
     matches!(unit_kind_of(stem), UnitKind::Template)
 }
 
-/// Returns whether a link with the stem `stem` can be an alias of the timer with the stem `other`: not of itself, only
-/// of the same kind of name, and an instance only of the same instance or of a template.
+/// Returns whether a link with the stem `stem` can be an alias of the timer with the stem `other`. The two must differ,
+/// and both must be plain names or instances with the same instance name, or `other` must be a template and `stem` a
+/// template or an instance.
 #[tactic(auto, unfolding(crate::specs::rules::UnitName::may_lead))]
 pub(crate) fn may_lead(stem: &str, other: &str) -> bool
     ensures { result ≡ may_lead stem.now other.now }
@@ -89,8 +90,8 @@ pub(crate) fn may_lead(stem: &str, other: &str) -> bool
     other != stem && may_be_linked(unit_kind_of(stem), unit_kind_of(other), is_same)
 }
 
-/// Returns whether a link whose name is of the first kind can be an alias of a name of the second kind. `is_same` says
-/// whether both have the same instance.
+/// Returns whether a link whose name is of the kind `kind` can be an alias of a name of the kind `other`. `is_same`
+/// says whether both names have the same instance name.
 fn may_be_linked(kind: UnitKind, other: UnitKind, is_same: bool) -> bool
     ensures { result ≡ may_be_linked kind other is_same }
 {
@@ -102,8 +103,8 @@ fn may_be_linked(kind: UnitKind, other: UnitKind, is_same: bool) -> bool
     }
 }
 
-/// Returns the instance in a stem: the part after its first `@`. Only the stem of an instance has one; for all others,
-/// it is empty.
+/// Returns the instance name in a stem: the part after its first `@`. It is empty unless the stem is that of an
+/// instance.
 #[tactic(auto, unfolding(crate::specs::rules::UnitName::instance_of))]
 pub(crate) fn instance_of(stem: &str) -> &str
     ensures { result.now ≡ instance_of stem.now }

@@ -3,7 +3,7 @@
 ghost use Rattle.std.specs.Prelude.{◌≡◌};
 ghost use Rattle.cal_unit_index.specs.rules.Folders.{suffix_of, type_folder};
 
-/// A type of units.
+/// The type of a unit, which the suffix of its name shows.
 #[derive(Clone, Copy, PartialEq, Eq, Debug)]
 pub enum UnitType {
     Timer,

@@ -292,7 +292,7 @@ present_is known None (Some secs) now instant gives h =
 
 -- ## All steps together
 
--- the end of the work is the report of the request, or a stop of the run
+-- the work ended with the report of the request, or with a stop of the run
 pub record Ran (known : Known) (ask : Ask) (world : World) (end : Result Report Stop) : Type 0 where
   pub asked : Request
   pub request : IsRequestOf known ask asked

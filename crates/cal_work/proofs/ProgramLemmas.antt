@@ -116,7 +116,7 @@ keeps (Some xs) (Some ys) h = h ∙ append-nil xs
 
 -- ## How the run of a request ends
 
--- the end is a report that answers the request
+-- the work ended with a report that answers the request
 record EndsAnswered (known : Known) (asked : Request) (taking : Verb) (end : Result Report Stop) : Type 0 where
   base : ℤ
   sought : IsBase asked base

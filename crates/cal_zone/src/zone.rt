@@ -1,4 +1,4 @@
-//! The type of time zones. It tells UTC itself from a zone whose UTC offset is always 0.
+//! The type of time zones. It distinguishes UTC itself from a zone whose UTC offset is always 0.
 
 ghost use Rattle.std.specs.Prelude.{◌≡◌, true, false};
 ghost use Rattle.jiff.specs.Types.{Offset};

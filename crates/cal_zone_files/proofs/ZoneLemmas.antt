@@ -84,7 +84,7 @@ rejection_on machine name bytes path zones.TooLarge same read rejected = (same, 
 rejection_on machine name bytes path zones.NameTaken same read rejected = absurd rejected
 
 -- if an origin can't be read, so that the zone is `UnreadIn` this origin, then the error that is returned,
--- `unread_fault`, agrees with that (`IsResultOf`)
+-- `unread_fault`, agrees with this zone (`IsResultOf`)
 pub unread_is : {X Y : Type 0} (view : X → Y) (zone_of : Result Y Unreadable → MachineLocalZone) (origin : Origin)
     → ((why : Unreadable) → zone_of (Err why) ≡ UnreadIn origin) → (fault : trees.TreeFault) (answer : Result Y Unreadable)
     → Tells view (Err fault) answer → IsResultOf (zone_of answer) (Err (unread_fault origin fault))
@@ -139,8 +139,8 @@ added_zones machine old new name IsZone a on held other utc =
 either_of : (a b : Bool) → a ≡ false → b ≡ true → (a || b) ≡ true
 either_of a b off on = rw (off, on) refl
 
--- if a table has a zone for this name, and this zone is the one in the machine's zone file, then the machine's zone
--- file is a valid one (`HasZone`)
+-- if a table has a zone for a name, and this zone is the one in the machine's zone file for the name, then the machine
+-- has a valid zone file for it (`HasZone`)
 pub usable_of : (machine : Machine) (other : List ℕ) (o : Option TimeZone) → is_some o ≡ true → IfSome o (IsZoneOn machine other) → HasZone machine other
 usable_of machine other None there on = absurd (false≢true there)
 usable_of machine other (Some zone) there on = (zone, on)

@@ -14,8 +14,8 @@ unfolding is_utc_name after_prefix is_zone_name offset_in
 options = refl
 
 -- Values of the variable `TZ`. After a colon comes the path of a file, absolute or relative to the folder of zone
--- files; an empty path stands for UTC, and `/etc/localtime` for the machine's own zone. The file `/a` isn't in the folder
--- of zone files.
+-- files; an empty path stands for UTC, and `/etc/localtime` for the machine's own zone. The file `/a` isn't in the
+-- folder of zone files.
 files : map variable_zone (codes ":" ∷ codes ":Asia/Tokyo" ∷ codes ":/usr/share/zoneinfo/Asia/Tokyo" ∷ codes ":UTC" ∷ codes ":/etc/localtime" ∷ codes ":/a" ∷ [])
     ≡ InUtc ∷ OfName (codes "Asia/Tokyo") ∷ OfName (codes "Asia/Tokyo") ∷ InUtc ∷ OfMachine ∷ UnclearIn origins.Variable ∷ []
 unfolding is_utc_name after_prefix is_zone_name

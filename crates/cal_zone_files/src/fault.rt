@@ -1,4 +1,4 @@
-//! The errors in finding which zone to use, and in loading zone files.
+//! The errors that occur in finding which zone to use, and in loading zone files.
 
 ghost use Rattle.std.specs.Prelude.{◌≡◌};
 ghost use Rattle.cal_zone_files.specs.declared.fault.ZonesFault.TheVariants.{NoMemory};
@@ -29,7 +29,7 @@ pub enum FileReason {
 pub enum ZonesFault {
     /// The text of this option or variable has none of the forms that name a zone.
     Unclear(Origin),
-    /// This origin can't be read, or its text is not UTF-8. Only the variable can fail like this.
+    /// The text of this option or variable can't be read, or is not UTF-8. This happens only for the variable.
     Unread(Origin),
     /// The zone file at this path can't be used, for this reason.
     At(String, FileReason),

@@ -19,11 +19,15 @@ use std::alloc::{AllocError, Global};
 /// Returns a table with UTC and with the zones of these names, each loaded from its file `/usr/share/zoneinfo/NAME`
 /// (RFC 8536). The name `UTC`, ignoring case, needs no file, and a name may be repeated.
 ///
-/// Fails with [`ZonesFault::At`] and the path of the first file that can't be used: with [`FileReason::NotFound`] if
-/// nothing is there, with [`FileReason::Load`] and [`LoadFault::ReadFailed`] if a folder is there or if the path can't
-/// be followed or read, or else with [`FileReason::Load`] and the error of [`Rules::file`]; a device counts as an empty
-/// file. So an invalid name fails with `NotFound`, unless there is something at its path. Fails with
-/// [`ZonesFault::NoMemory`] if allocation fails.
+/// Fails with [`ZonesFault::At`] and the path of the first file that can't be used. The reason is
+///
+/// - [`FileReason::NotFound`] if nothing is there;
+/// - [`FileReason::Load`] with [`LoadFault::ReadFailed`] if a folder is there, or if the path can't be followed or
+///   read;
+/// - otherwise [`FileReason::Load`] with the error of [`Rules::file`]. A device counts as an empty file.
+///
+/// An invalid name is looked for, too, so its reason is [`FileReason::NotFound`], unless there is something at its
+/// path. Fails with [`ZonesFault::NoMemory`] if allocation fails.
 pub fn load_zones<T: Tree>(
     alloc: Global,
     tree: &mut T,
@@ -73,8 +77,9 @@ pub fn load_zone<T: Tree>(
 }
 
 /// Returns the machine's own zone: the one in the zone file to which `/etc/localtime` leads (localtime(5), RFC 8536).
-/// Returns `None`, which stands for UTC, if it leads to no zone file: nothing or a folder is there, the path can't be
-/// followed or read, or [`Rules::file`] rejects the bytes; a device counts as an empty file.
+/// Returns `None`, which stands for UTC, if `/etc/localtime` doesn't lead to a zone file: if nothing or a folder is
+/// there, if the path can't be followed or read, or if [`Rules::file`] rejects the bytes. A device counts as an empty
+/// file.
 ///
 /// Fails only if allocation fails.
 pub fn load_machine_zone<T: Tree>(alloc: Global, tree: &mut T) -> Result<Option<Rules>, AllocError>

@@ -25,7 +25,7 @@ unreadable_lines faults = flat_map (λ fault. subject_line (string_bytes fault.p
 abbrev pub masked_lines : List (List ℕ) → List ℕ
 masked_lines names = flat_map (λ name. name ++ codes ": masked\n") names
 
--- ## What is ignored
+-- ## Lines and files that are ignored
 
 -- the lines about the expressions and exceptions of a timer that are ignored
 abbrev pub ignored_lines : LoadedTimer → List (List ℕ)
@@ -36,7 +36,7 @@ abbrev pub broken_line_if : LoadedTimer → Option BrokenLine → List (List ℕ
 broken_line_if timer None = []
 broken_line_if timer (Some line) = broken_line timer line ∷ []
 
--- the lines about the drop-ins of a timer that systemd stops reading at some line
+-- the lines about the drop-ins of a timer that systemd doesn't read to the end
 abbrev pub broken_lines : LoadedTimer → List (List ℕ)
 broken_lines timer = flat_map (broken_line_if timer) timer.files.broken.items
 
@@ -46,15 +46,15 @@ lines_about timers = flat_map ignored_lines timers ++ flat_map broken_lines time
 
 -- ## Lines without repeats: several timers can have the same drop-in
 
--- the lines with one more, unless it is among them
+-- the lines, followed by `line` unless it is among them
 abbrev pub with_line : List (List ℕ) → List ℕ → List (List ℕ)
 with_line lines line = if list_any (λ known. bytes_eq known line) lines then lines else lines ++ line ∷ []
 
--- the lines with these added, without repeats
+-- the lines, followed by each line of `more` that isn't among them yet, once
 abbrev pub with_lines : List (List ℕ) → List (List ℕ) → List (List ℕ)
 with_lines lines more = fold with_line lines more
 
--- lines as a text
+-- the lines, each followed by a line feed
 abbrev pub text_of : List (List ℕ) → List ℕ
 text_of lines = flat_map (λ line. line ++ codes "\n") lines
 
@@ -71,8 +71,8 @@ has_target faults fault = list_any (λ other. bytes_eq (string_bytes other.targe
 abbrev pub line_unless : List TargetFault → TargetFault → List ℕ
 line_unless faults fault = if has_target faults fault then [] else fault_line fault ++ codes "\n"
 
--- the error lines about both of two targets; of an error about something that both have, such as a drop-in folder, only
--- the first
+-- the error lines about what was loaded for two targets; an error of the second is left out if an error of the first is
+-- about the same thing, such as a drop-in folder that both timers have
 abbrev pub lines_of_both : Loaded → Loaded → List ℕ
 lines_of_both first second =
     (fault_lines first.faults.items ++ flat_map (line_unless first.faults.items) second.faults.items)
@@ -87,6 +87,7 @@ is_not_found _ = false
 abbrev pub unfound_line : List TargetFault → TargetFault → List ℕ
 unfound_line of_files fault = if is_not_found fault.reason then line_unless of_files fault else []
 
--- the error lines about files, and about timers that aren't found if no file has this error
+-- the error lines about files, and then those about timers that aren't found; such a line is left out if an error about
+-- files has the same target
 abbrev pub lint_lines : List TargetFault → List TargetFault → List ℕ
 lint_lines of_files faults = fault_lines of_files ++ flat_map (unfound_line of_files) faults

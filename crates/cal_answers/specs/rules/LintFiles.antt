@@ -30,13 +30,13 @@ listed_finding style path text finding =
 
 -- ## The files
 
--- The findings are the problems of this text. Which mistakes they name, and what they suggest, isn't said, except that
--- systemd 252 doesn't reject a suggestion.
+-- The findings are the problems of this text. The contract leaves open which mistakes they name and what they suggest,
+-- except that systemd 252 doesn't reject a suggestion.
 abbrev pub AreFindingsIn : List ℕ → List Finding → Type 0
 AreFindingsIn text found = (map shown_finding found ≡ findings_in text) × All HasGoodSuggestion found
 
--- the maximum size of a text that is checked, in bytes; no file has a longer one: a file has at most 1,048,576 bytes,
--- and at most three bytes replace one that isn't UTF-8
+-- the maximum size of a text that is checked, in bytes: a file has at most 1,048,576 bytes, and at most three bytes
+-- replace each byte that isn't UTF-8, so no file has a longer text
 abbrev pub max_text : ℕ
 max_text = 3 * 1_048_576
 
@@ -60,6 +60,6 @@ AreProblemsOfFiles style files listed =
 
 -- ## Steps
 
--- `new` is `old`, followed by problems for which `Are` holds
+-- `new` is `old`, followed by problems that satisfy `Are`
 abbrev pub HasAlso : (List Listed → Type 0) → List Listed → List Listed → Type 0
 HasAlso Are old new = (more : List Listed) × Are more × (new ≡ old ++ more)

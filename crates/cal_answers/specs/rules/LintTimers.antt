@@ -40,7 +40,8 @@ place_in timer files number = unwrap_or (place_of files.texts.items files.first_
 
 -- ## What systemd ignores in a timer
 
--- an expression that is invalid once its specifiers are filled in; a line without specifiers has its error already
+-- the error for an expression that is invalid once its specifiers are filled in; if the line has no specifiers, its
+-- error is listed already
 abbrev pub ignored_line : List ℕ → TimerFiles → IgnoredLine → Candidate
 ignored_line timer files ignored =
     let place = place_in timer files ignored.number in
@@ -56,7 +57,8 @@ ignored_setting timer files setting =
     let place = place_in timer files setting.number in
     in_line Warning place.0 place.1 (ignored_setting_message setting.why) ProblemInLine
 
--- the line at which systemd stops reading a file isn't reported again if it is a bad section header with an error
+-- which problems make `lint` leave out the error for the line at which systemd stops reading a file; the error of a bad
+-- section header is listed already, as one of the problems of the file
 abbrev pub unless_reported : BrokenReason → Unless
 unless_reported broken.NotUtf8 = Same
 unless_reported broken.BadHeader = ErrorInLine
@@ -84,8 +86,9 @@ ignored_of timer = ignored_in (string_bytes timer.name) timer.files
 
 -- ## Timers that fail to load
 
--- The line at which systemd stops reading the timer's own file; or what it ignores in a timer whose unit nothing starts,
--- and that nothing starts it. All other reasons are problems of files.
+-- What is wrong with a timer that fails to load, by the reason. If systemd stops reading its own file at some line: an
+-- error for this line. If nothing starts its unit: what systemd ignores in its files, and that nothing starts the unit.
+-- For any other reason, nothing: `unread` has an error about what can't be found or read.
 abbrev pub failed_by : List ℕ → TargetReason → List Candidate
 failed_by target (reasons.Broken path line) =
     in_line Error (string_bytes path) line.number (broken_file_message line.reason) (unless_reported line.reason) ∷ []
@@ -102,7 +105,7 @@ abbrev pub if_missing : Machine → List (List ℕ) → Option (List ℕ) → Op
 if_missing machine path None = None
 if_missing machine path (Some unit) = if is_missing_on machine path unit then Some unit else None
 
--- the unit that a timer of the search path starts, if no folder of the search path has a file of it
+-- the unit that a timer of the search path starts, if no folder of the search path has a file of the unit
 abbrev pub missing_unit : Machine → List (List ℕ) → LoadedTimer → Option (List ℕ)
 missing_unit machine path timer =
     if is_in_folders path timer.files.texts.items
@@ -130,10 +133,10 @@ abbrev pub idle_of : Clocked → LoadedTimer → List Candidate
 idle_of at timer =
     map (idle_line timer) (idle_lines (setting_for at timer) at.now.secs (lists_of_loaded timer.calendar))
 
--- ## All of them
+-- ## All problems of timers
 
--- what is wrong with the timers that fail to load, what systemd ignores in the other timers, the units that are missing
--- on this machine and search path, and the lines without effect
+-- what is wrong with the timers that fail to load, what systemd ignores in the other timers, the timers whose unit is
+-- missing on this machine and search path, and the lines without effect
 abbrev pub problems_of_timers : Clocked → Machine → List (List ℕ) → Loaded → List Candidate
 problems_of_timers at machine path loaded =
     flat_map failed loaded.faults.items

@@ -1,5 +1,5 @@
--- Whether a timer's own file is in the search path (systemd.unit(5), Unit File Load Path). Only for such a timer,
--- `lint` looks for the unit that it starts.
+-- Whether a timer's own file is in the search path (systemd.unit(5), Unit File Load Path). Only then does `lint` look
+-- for the unit that the timer starts.
 use Rattle.std.specs.Prelude.{ℕ, Bool, false, not, ◌&&◌, List, [], ◌∷◌, drop, length, nat_eq, string_bytes}
 use Rattle.std.specs.List.{list_any, starts_with}
 use Rattle.cal_machine.specs.rules.Places.{is_slash}

@@ -23,8 +23,8 @@ abbrev pub IsZoneNamed : Machine → List ℕ → Bool → TimeZone → Type 0
 IsZoneNamed machine name true zone = zone ≡ UTC
 IsZoneNamed machine name false zone = IsZoneOn machine name zone
 
--- Whether the zone of `jiff` is this local zone. The machine's own zone is UTC if /etc/localtime doesn't lead to a zone
--- file. No zone is the local zone if the local zone is unclear or can't be read.
+-- Whether `zone`, a zone of `jiff`, is this local zone. The machine's own zone is UTC if /etc/localtime doesn't lead to
+-- a zone file. If the local zone is unclear or can't be read, this holds for no zone.
 abbrev pub IsThisZone : Machine → MachineLocalZone → TimeZone → Type 0
 IsThisZone machine InUtc zone = zone ≡ UTC
 IsThisZone machine (Ahead seconds) zone = zone ≡ fixed_offset_zone seconds
@@ -39,7 +39,7 @@ abbrev pub IsLocalZone : Machine → MachineLocalZone → Option TimeZone → Ty
 IsLocalZone machine local None = ⊥
 IsLocalZone machine local (Some zone) = IsThisZone machine local zone
 
--- the zone of a `LocalClock`, or None if its table doesn't have its name
+-- the zone of a `LocalClock`, or None if the zone has a name that isn't in its table
 abbrev pub clock_zone : LocalClock → Option TimeZone
 clock_zone (Fixed zone) = Some (zone_of zone)
 clock_zone (Ruled rules) = Some rules
@@ -67,16 +67,17 @@ shows_times verbs.Same = true
 shows_times verbs.Next = true
 shows_times verbs.Due = true
 
--- the zone of expressions that name no zone: that of `--zone`, or else, for `next`, that of `TZ`, or else the machine's
+-- the zone of expressions that name no zone: `--zone` if it is given, or else, for `next`, `TZ` if it is set, or else
+-- the machine's own zone
 abbrev pub local_zone_of : Machine → Question → MachineLocalZone
 local_zone_of machine question =
     machine_local_zone machine (option_map string_bytes question.zone) (is_next question.verb)
 
--- the options that say in which zone times are shown: `--in`, or else `--zone`
+-- the option that says in which zone times are shown: `--in` if it is given, or else `--zone`
 abbrev pub shown_option : Question → Option (List ℕ)
 shown_option question = option_or (option_map string_bytes question.shown_in) (option_map string_bytes question.zone)
 
--- the zone in which times are shown: that of these options, or else that of `TZ`, or else the machine's; `TZ` doesn't
--- count for `lint`, which shows no times
+-- the zone in which times are shown: that of `--in` or `--zone`, or else that of `TZ`, or else the machine's own;
+-- `lint` shows no times, so `TZ` is ignored for it
 abbrev pub shown_zone_of : Machine → Question → MachineLocalZone
 shown_zone_of machine question = machine_local_zone machine (shown_option question) (shows_times question.verb)

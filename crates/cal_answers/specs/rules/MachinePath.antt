@@ -12,7 +12,7 @@ value_or_none (Err why) = None
 abbrev pub variable_on : Machine → List ℕ → Option (List ℕ)
 variable_on machine name = value_or_none (machine.variable name)
 
--- the variables that count for a user's manager
+-- the variables on which the search path of a user's manager depends
 abbrev pub variables_on : Machine → Variables
 variables_on machine =
     record {
@@ -24,17 +24,19 @@ variables_on machine =
       runtime_dir = variable_on machine (codes "XDG_RUNTIME_DIR");
     }
 
--- the search path of the user's manager if the flag is true, or else of the system's, without `SYSTEMD_UNIT_PATH`
+-- the search path without `SYSTEMD_UNIT_PATH`: that of the user's manager if the flag is true, and otherwise that of
+-- the system's manager
 abbrev pub usual_path : Machine → Bool → Option (List (List ℕ))
 usual_path machine true = user_path (variables_on machine)
 usual_path machine false = Some system_folders
 
--- the search path if `SYSTEMD_UNIT_PATH` has this value, or isn't set
+-- the search path, by the value of `SYSTEMD_UNIT_PATH`; if the variable isn't set, it is `usual`
 abbrev pub path_by : Option (List ℕ) → List (List ℕ) → List (List ℕ)
 path_by None usual = usual
 path_by (Some value) usual = given_path value usual
 
--- the search path of the user's manager if `is_user` is true, or else of the system's; None if it has no usual path
+-- the search path of the user's manager if `is_user` is true, and otherwise that of the system's manager; None if there
+-- is no usual path
 abbrev pub machine_path : Machine → Bool → Option (List (List ℕ))
 machine_path machine is_user =
     option_map (path_by (variable_on machine (codes "SYSTEMD_UNIT_PATH"))) (usual_path machine is_user)

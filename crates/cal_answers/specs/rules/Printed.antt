@@ -19,11 +19,11 @@ program_line reason = codes "calendar-timers: " ++ reason ++ codes "\n"
 abbrev pub IsStopped : List ℕ → Printed → Type 0
 IsStopped reason printed = (printed.out ≡ []) × (printed.err ≡ program_line reason) × (printed.status ≡ 2)
 
--- the exit status if nothing but these error lines decides it
+-- the exit status of an answer whose status depends only on these error lines
 abbrev pub status_by : List ℕ → ℕ
 status_by lines = if length lines == 0 then 0 else 1
 
--- with more error lines at the end; if there are any, the exit status is at least 1
+-- what is printed, with more error lines at the end; if there are any, the exit status is at least 1
 abbrev pub with_errors : List ℕ → Printed → Printed
 with_errors lines printed = record {
   out = printed.out;
@@ -31,6 +31,6 @@ with_errors lines printed = record {
   status = if length lines == 0 then printed.status else max printed.status 1;
 }
 
--- with more lines for standard error at the end, which don't change the exit status
+-- what is printed, with more lines for standard error at the end, which don't change the exit status
 abbrev pub with_notes : List ℕ → Printed → Printed
 with_notes lines printed = record { out = printed.out; err = printed.err ++ lines; status = printed.status }

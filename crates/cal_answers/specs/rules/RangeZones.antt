@@ -29,7 +29,8 @@ abbrev pub text_or_none : Option (List ℕ) → List ℕ
 text_or_none None = []
 text_or_none (Some text) = text
 
--- the start of the range (0) or its end (1), which are the first two targets of `between`; nothing for other verbs
+-- the text of the range's start (index 0) or its end (index 1), which are the first two targets of `between`; empty for
+-- other verbs
 abbrev pub range_text : Verb → List (List ℕ) → ℕ → List ℕ
 range_text verbs.List targets index = []
 range_text verbs.Show targets index = []

@@ -62,8 +62,8 @@ is_nothing (loads.Due timer) = false
 abbrev pub is_drop_in : List ℕ → Bool
 is_drop_in target = ends_with nat_eq target (codes ".conf")
 
--- whether nothing may be found although the targets aren't folders: there are none, or one of them is a drop-in, which
--- `lint` skips if it is a mask
+-- whether it can be that nothing is found although the targets aren't folders: there are no targets, or one of them is
+-- a drop-in, which `lint` skips if it is a mask
 abbrev pub may_find_nothing : List (List ℕ) → Bool
 may_find_nothing targets = length targets == 0 || list_any is_drop_in targets
 
@@ -84,15 +84,16 @@ abbrev pub shows_no_times : Verb → Bool
 shows_no_times verbs.Lint = true
 shows_no_times _ = false
 
--- the line that the local zone is UTC because /etc/localtime doesn't lead to a zone file, for verbs that show times
+-- for verbs that show times, the line which says that the local zone is UTC because /etc/localtime doesn't lead to a
+-- zone file
 abbrev pub zone_note : Verb → LocalClock → List ℕ
 zone_note verb local =
     if shows_no_times verb || not (is_assumed local) then []
     else codes "calendar-timers: /etc/localtime: no zone file, so the local zone is UTC\n"
 
--- ## All together
+-- ## All of these lines
 
--- if the question can't be answered at all, nothing is said about folders
+-- what is printed, with the lines about folders without timers, unless the question can't be answered at all
 abbrev pub with_empty_folders : List (List ℕ) → LoadedByVerb → Printed → Printed
 with_empty_folders targets loaded printed =
     if printed.status == 2 then printed else with_errors (empty_folder_lines targets loaded) printed
@@ -108,7 +109,7 @@ abbrev pub with_remarks_for : Question → Known → LoadedByVerb → Printed �
 with_remarks_for question known (loads.Due timer) printed = printed
 with_remarks_for question known _ printed = with_remarks question known printed
 
--- the answer with the error lines that don't depend on what the verb answers
+-- the answer, followed by the error lines about unreadable parts of the search path and, except for `due`, the remarks
 abbrev pub with_common_lines : Question → Known → Printed → Printed
 with_common_lines question known printed =
     with_remarks_for question known known.loaded (with_errors (unreadable_lines known.index.unreadable.items) printed)

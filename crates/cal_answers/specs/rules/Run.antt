@@ -13,7 +13,7 @@ use Rattle.cal_answers.specs.rules.Printed.{Printed}
 
 -- ## What is to be written
 
--- the answer to the question that the arguments ask, at some time of the machine's clock
+-- the answer to the question that the arguments ask, at whatever time the machine's clock shows
 pub record IsAnswerTo (gives : Said → Bool) (arguments : List (List ℕ)) (style : Style) (printed : Printed) : Type 0 where
   pub question : Question
   pub asked : IsQuestionOf arguments (shown_question question)
@@ -59,13 +59,14 @@ err_text true err = joined (err ∷ codes "calendar-timers: output failed\n" ∷
 abbrev pub status_unless : Bool → Bool → ℕ → ℕ
 status_unless is_due is_error status = if is_due && is_error then 255 else status
 
--- the exit status of a run: if standard output failed, there is an error line, and the status is 1, except for `due`
+-- the exit status of a run: if standard output failed, there is an error line, so the status is 255 for `due`, and
+-- otherwise 1
 abbrev pub run_status : Bool → Bool → Printed → ℕ
 run_status is_due is_cut printed =
     if is_cut then status_unless is_due true 1 else status_unless is_due (not (length printed.err == 0)) printed.status
 
--- what is written to both outputs, and the exit status; `is_due` is whether the arguments ask `due`, and `is_cut` and
--- `is_err_cut` are whether the outputs failed
+-- what is written to both outputs, and the exit status; `is_due`: the arguments ask `due`; `is_cut`: standard output
+-- failed; `is_err_cut`: standard error failed
 pub record Prints (is_due : Bool) (printed : Printed) (status : ℕ) (is_cut is_err_cut : Bool) (out out' err err' : Option (List ℕ)) : Type 0 where
   pub ended : status ≡ run_status is_due is_cut printed
   pub answer : WritesUnless is_cut out out' printed.out

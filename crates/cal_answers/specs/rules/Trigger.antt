@@ -7,7 +7,7 @@ use Rattle.cal_timers_command.specs.declared.question.Verb.{Verb}
 use Rattle.cal_timers_command.specs.declared.question.Verb.TheVariants as verbs
 use Rattle.cal_answers.specs.rules.MachinePath.{variable_on}
 
--- the name of a timer, as systemd writes it: it ends in `.timer`, and isn't a path
+-- whether this is the name of a timer as systemd writes it: it ends in `.timer`, and isn't a path
 abbrev pub is_timer_name : List ℕ → Bool
 is_timer_name name = ends_with nat_eq name (codes ".timer") && not (is_path name)
 
@@ -24,7 +24,7 @@ abbrev pub due_targets : Machine → List (List ℕ) → List (List ℕ)
 due_targets machine [] = trigger_on machine
 due_targets machine (one ∷ rest) = one ∷ rest
 
--- what a verb is about on this machine, given its targets
+-- the targets of a verb on this machine; if `due` has none, the timer that started the service takes their place
 abbrev pub targets_on : Machine → Verb → List (List ℕ) → List (List ℕ)
 targets_on machine verbs.List targets = targets
 targets_on machine verbs.Show targets = targets

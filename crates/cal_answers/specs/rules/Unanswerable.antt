@@ -14,7 +14,8 @@ use Rattle.cal_answers.specs.rules.MachinePath.{machine_path}
 use Rattle.cal_answers.specs.rules.Present.{IsPresent}
 
 -- A zone can't be used if its rule isn't valid, if the file for its name can't be used, or if the option or `TZ` is
--- unclear or can't be read. The machine's own zone is UTC if /etc/localtime doesn't lead to a zone file.
+-- unclear or can't be read. The machine's own zone can be used even if /etc/localtime doesn't lead to a zone file: it
+-- is UTC then.
 abbrev pub IsUnusable : Machine → MachineLocalZone → Type 0
 IsUnusable machine InUtc = ⊥
 IsUnusable machine (Ahead seconds) = ⊥
@@ -24,7 +25,7 @@ IsUnusable machine OfMachine = ⊥
 IsUnusable machine (UnclearIn origin) = ⊤
 IsUnusable machine (UnreadIn origin) = ⊤
 
--- neither the question nor the clock has a present, or what they have isn't an instant
+-- neither the question nor the clock states a present, or the stated second isn't an instant
 abbrev pub HasNoPresent : Question → Option ℤ → Type 0
 HasNoPresent question clock = IsPresent (option_or question.now clock) None
 

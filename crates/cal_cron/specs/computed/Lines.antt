@@ -57,7 +57,7 @@ texts_in (a ∷ b ∷ c ∷ d ∷ []) = Err FieldCount
 texts_in (a ∷ b ∷ c ∷ d ∷ e ∷ []) = Ok (record { minute = a; hour = b; day = c; month = d; weekday = e })
 texts_in (a ∷ b ∷ c ∷ d ∷ e ∷ f ∷ ws) = Err FieldCount
 
--- the error of a field names the field
+-- the result of parsing a field, with the field added to the error if there is one
 abbrev pub in_field : CronField → Result (List CronRange) FieldFault → Result (List CronRange) CronFault
 in_field field (Ok rs) = Ok rs
 in_field field (Err fault) = Err (InField field fault)

@@ -69,7 +69,8 @@ fields_at s weekdays day = record {
 abbrev pub shown_exprs : declared_exprs.CronExprs → CronExprs
 shown_exprs e = record { first = e.first; other = e.other }
 
--- both the days of the month and the weekdays in one expression, or each of them in an expression of its own
+-- the expressions of a schedule: one expression with both the days of the month and the weekdays if `star` is true, and
+-- otherwise one expression for each of the two
 unfoldable pub exprs_of : Schedule → CronExprs
 exprs_of s =
     if s.star then record { first = normal_fields (fields_at s (weekdays_of s.weekday) (component_of Day s.day)); other = None }

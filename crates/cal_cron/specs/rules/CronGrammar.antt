@@ -23,7 +23,7 @@ greatest Day = 31
 greatest Month = 12
 greatest Weekday = 7
 
--- the names of the months from 1, and of the weekdays from 0
+-- the names of the months, numbered from 1, and those of the weekdays, numbered from 0
 abbrev pub month_names : List (List ℕ)
 month_names =
     codes "jan" ∷ codes "feb" ∷ codes "mar" ∷ codes "apr" ∷ codes "may" ∷ codes "jun" ∷ codes "jul" ∷ codes "aug" ∷ codes "sep" ∷ codes "oct" ∷ codes "nov" ∷ codes "dec" ∷ []
@@ -32,7 +32,7 @@ abbrev pub weekday_names : List (List ℕ)
 weekday_names =
     codes "sun" ∷ codes "mon" ∷ codes "tue" ∷ codes "wed" ∷ codes "thu" ∷ codes "fri" ∷ codes "sat" ∷ []
 
--- the number of the first of the names that the text equals, ignoring case, if the first name has the number `n`
+-- the number of the first name in the list that equals the text, ignoring case; the names are numbered from `n`
 abbrev pub name_from : ℕ → List (List ℕ) → List ℕ → Option ℕ
 name_from n [] text = None
 name_from n (name ∷ names) text =
@@ -59,7 +59,7 @@ pub record IsWithin (field : CronField) (n : ℕ) : Type 0 where
 abbrev pub IsValue : CronField → List ℕ → ℕ → Type 0
 IsValue field text n = (name_in field text ≡ Some n) ⊎ (IsNumber text n × IsWithin field n)
 
--- `a-b`, where `b` isn't below `a`
+-- the text is `a-b`, and `b` isn't below `a`
 pub record IsBetween (field : CronField) (text : List ℕ) (r : CronRange) : Type 0 where
   pub front : List ℕ
   pub back : List ℕ
@@ -68,7 +68,7 @@ pub record IsBetween (field : CronField) (text : List ℕ) (r : CronRange) : Typ
   pub last : IsValue field back r.last
   pub forward : r.first ≤ r.last
 
--- `*`, which is all numbers of the field
+-- the text is `*`, which stands for all numbers of the field
 pub record IsStar (field : CronField) (text : List ℕ) (r : CronRange) : Type 0 where
   pub whole : text ≡ codes "*"
   pub first : r.first ≡ least field
@@ -81,18 +81,18 @@ IsSpan field text r = IsStar field text r ⊎ IsBetween field text r
 abbrev pub max_step : ℕ
 max_step = 9999
 
--- a single value, which is a range that begins and ends with this value
+-- the text is a single value, which stands for the range that begins and ends with this value
 pub record IsSingle (field : CronField) (text : List ℕ) (r : CronRange) : Type 0 where
   pub value : IsValue field text r.first
   pub last : r.last ≡ r.first
   pub step : r.step ≡ 1
 
--- `*` or `a-b`, with all its numbers
+-- the text is `*` or `a-b` without a step, so the range has all numbers from its first to its last
 pub record IsWhole (field : CronField) (text : List ℕ) (r : CronRange) : Type 0 where
   pub span : IsSpan field text r
   pub step : r.step ≡ 1
 
--- `*/s` or `a-b/s`, every s-th number from the first
+-- the text is `*/s` or `a-b/s`, which stands for every s-th number from the first
 pub record IsStepped (field : CronField) (text : List ℕ) (r : CronRange) : Type 0 where
   pub front : List ℕ
   pub back : List ℕ
@@ -105,11 +105,12 @@ pub record IsStepped (field : CronField) (text : List ℕ) (r : CronRange) : Typ
 abbrev pub IsItem : CronField → List ℕ → CronRange → Type 0
 IsItem field text r = IsSingle field text r ⊎ (IsWhole field text r ⊎ IsStepped field text r)
 
--- the maximum number of items of a field; with it, an expression has at most the 240 parts that are allowed
+-- the maximum number of items of a field; an expression has parts from four fields, so it has at most the 240 parts
+-- that are allowed
 abbrev pub max_items : ℕ
 max_items = 60
 
--- one to 60 items joined by commas
+-- the text is one to 60 items joined by commas
 pub record IsField (field : CronField) (text : List ℕ) (rs : List CronRange) : Type 0 where
   pub texts : List (List ℕ)
   pub some : 0 < length texts

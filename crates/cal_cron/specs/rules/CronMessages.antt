@@ -61,7 +61,7 @@ fields_end text Day = word_end text (word_end text 0)
 fields_end text Month = word_end text (word_end text (word_end text 0))
 fields_end text Weekday = word_end text (word_end text (word_end text (word_end text 0)))
 
--- the index of the byte at which the field with the error begins; if no field has an error, that of the first word
+-- the index of the byte at which the field with the error begins; if no field has an error, the index of the first word
 abbrev pub fault_start : List ℕ → CronFault → ℕ
 fault_start text (InField field fault) = word_start text (fields_end text field)
 fault_start text fault = word_start text 0

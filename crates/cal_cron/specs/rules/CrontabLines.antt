@@ -35,7 +35,7 @@ pub record Assignment : Type 0 where
 abbrev pub is_empty : List ℕ → Bool
 is_empty text = length text == 0
 
--- the name of a variable isn't empty and has no blanks
+-- whether a text can be the name of a variable: it isn't empty and has no blanks
 abbrev pub is_name : List ℕ → Bool
 is_name name = not (is_empty name) && not (list_any is_blank name)
 

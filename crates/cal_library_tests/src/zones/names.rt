@@ -43,9 +43,9 @@ fn lengths() -> Result<(), Fail> {
     ensure(!is_zone_name(&letters), "256 letters")
 }
 
-/// Adds the zone of a POSIX rule to the table. If the table rejects the zone, it hands the rules back. In that case,
-/// returns the error, and the instant at which a clock that follows these rules shows 1970-01-01 02:00:00. The instant
-/// tells which rules they are.
+/// Adds the zone of a POSIX rule to the table. If the table rejects the zone and hands the rules back, returns the
+/// error, and the instant at which a clock that follows the returned rules shows 1970-01-01 02:00:00. This instant
+/// shows which rules were handed back.
 fn add(
     alloc: Global,
     table: &mut ZoneTable,

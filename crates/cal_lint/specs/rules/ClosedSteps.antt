@@ -47,12 +47,14 @@ is_same_field f g field =
 abbrev pub has_same_numbers : Fields → Fields → Bool
 has_same_numbers f g = list_all (is_same_field f g) fields
 
--- the expression with the fields `g` elapses when that with the fields `f` does, and has no step without an end
+-- the expression with the fields `g` elapses exactly when the one with the fields `f` does, in the same zone, and has
+-- no step without an end
 pub record IsClosedOf (f g : Fields) : Type 0 where
   pub elapses : (local : ℕ) → matches (sets_of g) local ≡ matches (sets_of f) local
   pub zone : g.zone ≡ f.zone
   pub closed : has_open_step g ≡ false
 
--- the text is an expression that elapses when that with the fields `f` does, and has no step without an end
+-- the text is an expression that elapses exactly when the one with the fields `f` does, in the same zone, and has no
+-- step without an end
 abbrev pub IsClosedForm : Fields → List ℕ → Type 0
 IsClosedForm f text = (g : Fields) × (expr_in text ≡ Ok g) × IsClosedOf f g

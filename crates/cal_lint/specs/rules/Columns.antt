@@ -1,4 +1,5 @@
--- The columns at which problems begin: bytes of the first physical line of a logical line, counted from 1.
+-- The columns at which problems begin. A column is the number of a byte, counted from 1, in the first physical line of
+-- a logical line.
 use Rattle.std.specs.Prelude.{ℕ, ◌+◌, ◌-◌, ◌==◌, nat_eq, Bool, not, ◌&&◌, ◌||◌, if◌then◌else◌, List, [], drop, filter, is_ok, length, slice_get, slice_index, take, Option, None, unwrap_or}
 use Rattle.std.specs.List.{after_last, find, last_or, position_or_len, prefix_len, range_with_len, starts_with}
 use Rattle.std.specs.Option.{option_map_or}

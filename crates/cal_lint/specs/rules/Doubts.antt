@@ -80,8 +80,9 @@ abbrev pub has_month_day : List (List ℕ) → Bool
 has_month_day [] = false
 has_month_day (word ∷ ws) = is_month_day word
 
--- whether the name of a zone looks like an abbreviation such as `CET`: 3 to 5 upper-case ASCII letters, and not `UTC`;
--- systemd takes an abbreviation of the machine's own zone for winter time or for summer time only
+-- Whether the name of a zone looks like an abbreviation such as `CET`: 3 to 5 upper-case ASCII letters, and not `UTC`.
+-- If it is one of the two abbreviations of the machine's own zone, systemd takes it for winter time or for summer time
+-- only.
 abbrev pub looks_like_abbreviation : List ℕ → Bool
 looks_like_abbreviation name =
     nat_le 3 (length name) && nat_le (length name) 5 && list_all is_ascii_uppercase name && not (is_utc_name name)

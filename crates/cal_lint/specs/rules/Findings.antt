@@ -72,7 +72,8 @@ reported_flaw (Some (LosesElapses field)) = Some (LosesElapses field)
 reported_flaw (Some (FailsAtClockChanges field)) = Some (FailsAtClockChanges field)
 reported_flaw (Some FailsAtMidnightChanges) = None
 
--- what systemd 252 computes wrongly in a valid expression; it doesn't compute exceptions
+-- what systemd 252 computes wrongly in a valid expression; nothing in an exception, since systemd doesn't read
+-- exceptions
 abbrev pub flaws_of : Assignment → List Problem
 flaws_of a = if is_exception a then [] else option_to_list (option_map OpenStep (reported_flaw (if_valid (flaw_in a.value))))
 
@@ -112,7 +113,7 @@ known_problems faults Unit a = []
 known_problems faults Timer a = setting_problems faults a
 known_problems faults Install a = if has_bad_name a then BadUnitName ∷ [] else []
 
--- the problems of an assignment in this section; if its key is unknown, this is the only one
+-- the problems of an assignment in this section; an unknown key is the only problem of its assignment
 abbrev pub problems_of : List FileFault → Section → Assignment → List Problem
 problems_of faults section a =
     if is_unknown_key section a.key then UnknownKey section ∷ [] else known_problems faults section a

@@ -43,6 +43,7 @@ is_of_word YearMonth = true
 is_of_word Weekday = true
 is_of_word Shorthand = true
 
--- whether `found` is the mistake that concerns the whole text, or, if there is none, that of a word or None
+-- whether `found` is the mistake that concerns the whole text or, if no mistake does, either a mistake that concerns a
+-- word, or None
 abbrev pub IsMistakeIn : List ℕ → Option Mistake → Type 0
 IsMistakeIn text found = MatchOption (mistake_in text) (IfSome found (λ mistake. IsTrue (is_of_word mistake))) (λ mistake. found ≡ Some mistake)

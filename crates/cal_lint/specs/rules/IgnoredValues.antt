@@ -5,7 +5,7 @@ use Rattle.cal_settings.specs.rules.Settings.{is_taken_as, kind_of}
 use Rattle.cal_timer.specs.rules.Assignments.{Assignment}
 use Rattle.cal_timer.specs.rules.TimerText.{is_reset}
 
--- the kind of the setting, unless systemd takes the value or the assignment clears the monotonic timers
+-- the kind of the setting, or None if systemd accepts the value, or if the assignment clears the monotonic timers
 abbrev pub ignored_kind : Option SettingKind → Bool → List ℕ → Option SettingKind
 ignored_kind None clears value = None
 ignored_kind (Some kind) clears value = if clears || is_taken_as (Some kind) value then None else Some kind

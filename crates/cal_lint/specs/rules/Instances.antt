@@ -38,7 +38,7 @@ abbrev pub around_percent : List ℕ → Option (List ℕ × List ℕ)
 around_percent value =
     if list_any is_percent value then Some (before_first is_percent value, after_first is_percent value) else None
 
--- what stands before and after the only specifier of a value, if this is the instance
+-- what stands before and after the instance; None unless the instance is the only specifier of the value
 abbrev pub around_instance : List ℕ → Option (List ℕ × List ℕ)
 around_instance value = option_and_then (λ parts. both_if_plain parts.0 (after_letter parts.1)) (around_percent value)
 

@@ -58,7 +58,8 @@ is_member f field n = members_of field (sets_of f) (component_value f.from_end f
 
 -- ## The number at which the search goes on
 
--- whether the numbers `start`, `start` + `step`, .. of a step without an end include `n`, which isn't below `start`
+-- whether `n`, which must not be below `start`, is one of the numbers `start`, `start` + `step`, .. of a step without
+-- an end
 abbrev pub step_reaches : ℕ → Option ℕ → Option ℕ → ℕ → Bool
 step_reaches start None (Some step) n = (n - start) % step == 0
 step_reaches start end step n = false
@@ -133,8 +134,8 @@ fails_at_changes f field = false
 
 -- ## All flaws
 
--- Whether the expression has this flaw. `FailsAtMidnightChanges` is the last of `flaws`, so it is found only if the
--- search goes on at hour 0.
+-- Whether the expression has this flaw. `FailsAtMidnightChanges` is the last of `flaws`: if the search goes on at an
+-- hour other than 0, `FailsAtClockChanges` is found first.
 abbrev pub has_flaw : Fields → OpenStepFlaw → Bool
 has_flaw f (LosesElapses field) = loses_elapses f field
 has_flaw f (FailsAtClockChanges field) = may_change f.zone && fails_at_changes f field

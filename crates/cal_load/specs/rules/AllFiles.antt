@@ -44,12 +44,13 @@ paths_of_unit machine path asked (FoundAt file own_file own) =
 abbrev pub unit_paths : Machine → List (List ℕ) → List ℕ → List (List ℕ)
 unit_paths machine path asked = paths_of_unit machine path asked (unit_on machine path asked)
 
--- the paths of the unit with this stem, or none if there is no stem, since the name isn't valid
+-- the paths of the unit with this stem; there are none if there is no stem, which means that the unit's name isn't
+-- valid
 abbrev pub paths_if_valid : Machine → List (List ℕ) → Option (List ℕ) → List (List ℕ)
 paths_if_valid machine path None = []
 paths_if_valid machine path (Some stem) = unit_paths machine path stem
 
--- the paths of the files with these names in a folder, or nothing if its names can't be read
+-- the paths of the files with these names in a folder; there are none if the names in the folder can't be read
 abbrev pub paths_in : List ℕ → Result (List (List ℕ)) Unreadable → List (List ℕ)
 paths_in folder (Ok names) = map (path_in folder) names
 paths_in folder (Err why) = []
@@ -59,7 +60,7 @@ abbrev pub folder_paths : Machine → List ℕ → List (List ℕ)
 folder_paths machine folder =
     paths_in folder (text_names_at machine folder) ++ flat_map (unit_paths machine (folder ∷ [])) (units_in_folder machine folder)
 
--- what a path stands for: the files of a folder, or the path itself
+-- the paths that a path stands for: those of a folder's files if it leads to a folder, and otherwise the path itself
 abbrev pub paths_at : Machine → List ℕ → List (List ℕ)
 paths_at machine path = if is_folder (end_at machine path) then folder_paths machine path else path ∷ []
 
@@ -74,7 +75,7 @@ all_paths machine path is_all = flat_map (unit_paths machine path) (units_on mac
 
 -- ## The files at these paths
 
--- each of the paths once, where it comes first
+-- the paths without repeats; each of them stays where it occurs first
 abbrev pub each_once : List (List ℕ) → List (List ℕ)
 each_once [] = []
 each_once (path ∷ paths) = path ∷ filter (λ other. not (bytes_eq other path)) (each_once paths)
@@ -95,7 +96,7 @@ taken_of Mask = taken.TheVariants.Masked
 taken_of (Unusable reason) = taken.TheVariants.Unusable reason
 taken_of (Text bytes) = taken.TheVariants.Read
 
--- the paths with one more at their end, unless they have it already
+-- the paths, followed by `path` unless it is among them
 abbrev pub with_path : List (List ℕ) → List ℕ → List (List ℕ)
 with_path paths path = if list_any (bytes_eq path) paths then paths else paths ++ path ∷ []
 
@@ -103,7 +104,7 @@ with_path paths path = if list_any (bytes_eq path) paths then paths else paths +
 abbrev pub remembered_of : Machine → List (List ℕ) → List ℕ → Option Taken
 remembered_of machine paths path = if list_any (bytes_eq path) paths then Some (taken_of (file_at machine path)) else None
 
--- These paths were tried, in this order, and no others. Their texts were read, and it is remembered what is at each.
+-- These paths were tried, in this order, and no others. Their texts were read, and `seen` says what is at each path.
 pub record AreTried (machine : Machine) (paths : List (List ℕ)) (reading : Reading) : Type 0 where
   pub files : map shown_unit_text reading.loaded.files.items ≡ texts_at machine paths
   pub seen : (path : List ℕ) → get_by_text reading.seen path ≡ remembered_of machine paths path
@@ -112,7 +113,7 @@ pub record AreTried (machine : Machine) (paths : List (List ℕ)) (reading : Rea
 abbrev pub HasTried : Machine → Reading → Type 0
 HasTried machine reading = (paths : List (List ℕ)) × AreTried machine paths reading
 
--- between `old` and `new` this path was tried, unless it had been tried before; in either case it is known what is
+-- between `old` and `new` this path was tried, unless it had been tried before; in either case, `taken` says what is
 -- there
 abbrev pub IsTaken : Machine → List ℕ → Taken → Reading → Reading → Type 0
 IsTaken machine path taken old new =

@@ -1,5 +1,5 @@
--- What targets stand for, and the result of loading it: each unit or file that a target stands for ends up as a timer,
--- as masked, or as an error. A target is how a user names timers: the name of a unit, with or without its suffix
+-- What targets stand for, and what loading them leads to: each unit or file that a target stands for ends up as a
+-- timer, as masked, or as an error. A target is how a user names timers: the name of a unit, with or without its suffix
 -- (systemctl(1), Parameter Syntax), or the path of a file or folder.
 use Rattle.std.specs.Prelude.{◌≡◌, ⊤, ◌⊎◌, ◌==◌, ℕ, nat_eq, IsTrue, Bool, true, false, not, ◌&&◌, ◌||◌, if◌then◌else◌, List, [], ◌∷◌, ◌++◌, All, Option, None, Some, Result, Ok, Err, codes, filter, length, map, string_bytes}
 use Rattle.std.specs.List.{ends_with, flat_map, list_any, starts_with}
@@ -69,7 +69,7 @@ is_text_name name = is_visible (codes ".timer") name || is_visible (codes ".conf
 abbrev pub text_names_in : Listing → List (List ℕ)
 text_names_in listing = sorted_once (filter is_text_name listing.names)
 
--- the names of timers and drop-ins in the folder to which a path leads, unless they can't be read
+-- the names of timers and drop-ins in the folder to which a path leads, or why the folder's names can't be read
 abbrev pub text_names_at : Machine → List ℕ → Result (List (List ℕ)) Unreadable
 text_names_at machine folder = seen text_names_in (names_at machine folder)
 
@@ -85,8 +85,8 @@ IsUnreadFault folder names faults.TheVariants.NoMemory = ⊤
 -- ## The units of a folder
 
 -- A folder that is a target is read as if it were the only folder of the search path: systemd.unit(5), Unit File Load
--- Path. These are the stems of the own names of its units. An instance of a template also counts if a folder
--- `NAME.wants` or `NAME.requires` in it links it.
+-- Path. These are the stems of the own names of its units. Instances of templates are among these units, too, if a
+-- folder `NAME.wants` or `NAME.requires` below the target has links to them.
 abbrev pub units_in_folder : Machine → List ℕ → List (List ℕ)
 units_in_folder machine folder = all_units machine (folder ∷ [])
 
@@ -106,7 +106,7 @@ pub data Sought : Type 0 where
   FolderUnit : (folder : List ℕ) → (stem : List ℕ) → Sought
   UnreadPath : (fault : Fault) → Sought
 
--- what a folder stands for: its units, and what can't be read of it
+-- what a folder stands for: its units, and everything in it that can't be read (`unread_in_folder`)
 abbrev pub sought_in : Machine → List ℕ → List Sought
 sought_in machine folder = map (FolderUnit folder) (units_in_folder machine folder) ++ map UnreadPath (unread_in_folder machine folder)
 
@@ -166,8 +166,8 @@ pub record Outcome : Type 0 where
 abbrev pub IsOutcome : Machine → List (List ℕ) → Outcome → Type 0
 IsOutcome machine path outcome = IsFound machine path outcome.sought outcome.found
 
--- Whether the lack of a file goes unreported: only for a unit that no target stands for, because its name in the search
--- path may be a link to nothing.
+-- Whether no error is reported if there is no file. This is so only for a unit that is loaded because no target is
+-- given: its name in the search path may be a link to nothing.
 abbrev pub may_be_absent : Sought → Bool
 may_be_absent (ListedUnit stem) = true
 may_be_absent (NamedUnit name) = false
@@ -181,14 +181,15 @@ timers_of outcome = timers_in outcome.found
 abbrev pub masked_of : Outcome → List (List ℕ)
 masked_of outcome = masked_in (name_of outcome.sought) outcome.found
 
--- what couldn't be loaded is among the faults, unless it has no file and wasn't asked for
+-- if the outcome is an error, it is among the faults, unless it says that there is no file, and this isn't reported
+-- (`may_be_absent`)
 abbrev pub IsAccounted : List TargetFault → Outcome → Type 0
 IsAccounted all outcome =
     IsTrue (may_be_absent outcome.sought && is_absent outcome.found) ⊎ IsReported all (name_of outcome.sought) outcome.found
 
 -- Everything that was loaded comes from these outcomes: the timers are those that were found, in this order; what is
--- masked was found to be masked, in this order; and each error is among the faults, unless it goes unreported. There
--- may be other faults, such as those of drop-ins.
+-- masked was found to be masked, in this order; and each error is among the faults, unless it isn't reported
+-- (`IsAccounted`). There may be other faults, such as those of drop-ins.
 pub record AreLoadedFrom (outcomes : List Outcome) (loaded : Loaded) : Type 0 where
   pub timers : loaded.timers.items ≡ flat_map timers_of outcomes
   pub masked : map string_bytes loaded.masked.items ≡ flat_map masked_of outcomes
@@ -201,13 +202,13 @@ pub record AreOutcomes (Knows : Machine → List (List ℕ) → Type 0) (sought 
   pub are_all : (machine : Machine) (path : List (List ℕ)) → Knows machine path
       → map (λ outcome. outcome.sought) outcomes ≡ sought machine path
 
--- everything that is to be looked for was looked for, and nothing else was loaded
+-- everything in `sought` was looked for, and nothing else was loaded
 pub record HasAll (Knows : Machine → List (List ℕ) → Type 0) (sought : Machine → List (List ℕ) → List Sought) (loaded : Loaded) : Type 0 where
   pub outcomes : List Outcome
   pub loaded_from : AreLoadedFrom outcomes loaded
   pub are : AreOutcomes Knows sought outcomes
 
--- all units that are taken without a target were looked for, and nothing else was loaded
+-- all units that are to be loaded if no target is given were looked for, and nothing else was loaded
 abbrev pub HasAllUnits : (Machine → List (List ℕ) → Type 0) → Bool → Loaded → Type 0
 HasAllUnits Knows is_all loaded = HasAll Knows (λ machine path. map ListedUnit (units_on machine path is_all)) loaded
 
@@ -217,7 +218,7 @@ HasAllTargets Knows targets loaded = HasAll Knows (λ machine path. flat_map (so
 
 -- ## Steps
 
--- `new` is `old` with what comes from these outcomes
+-- `new` is `old` with what was loaded according to these outcomes, and perhaps with more faults
 pub record AreAdded (outcomes : List Outcome) (old new : Loaded) : Type 0 where
   pub timers : new.timers.items ≡ old.timers.items ++ flat_map timers_of outcomes
   pub masked : map string_bytes new.masked.items ≡ map string_bytes old.masked.items ++ flat_map masked_of outcomes

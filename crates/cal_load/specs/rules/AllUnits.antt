@@ -1,5 +1,6 @@
--- Which units are taken without a target, and the result of loading one: systemd.unit(5), Description and Unit File Load
--- Path. A stem is a unit's name without its suffix `.timer`; the own stem is that of its own name, not of an alias.
+-- Which units are loaded if no target is given, and the result of loading one: systemd.unit(5), Description and Unit
+-- File Load Path. A stem is a unit's name without its suffix `.timer`; the own stem is that of its own name, not of an
+-- alias.
 use Rattle.std.specs.Prelude.{◌≡◌, ⊤, ℕ, Bool, true, false, not, if◌then◌else◌, List, [], ◌∷◌, ◌++◌, Option, None, Some, Result, Ok, Err, String, codes, map, option_map, string_bytes}
 use Rattle.std.specs.BTreeSet.{BTreeSet}
 use Rattle.std.specs.List.{Contains, filter_map}
@@ -53,7 +54,8 @@ started_units machine path = own_stems machine path (started_in machine path)
 abbrev pub all_units : Machine → List (List ℕ) → List (List ℕ)
 all_units machine path = own_stems machine path (unit_stems_in machine path ++ started_in machine path)
 
--- the own stems of the units that are taken without a target: of all units, or only of those that other units start
+-- the own stems of the units that are loaded if no target is given: of all units, or only of those that other units
+-- start
 abbrev pub units_on : Machine → List (List ℕ) → Bool → List (List ℕ)
 units_on machine path is_all = if is_all then all_units machine path else started_units machine path
 
@@ -62,8 +64,8 @@ units_on machine path is_all = if is_all then all_units machine path else starte
 abbrev pub shown_stems : Option (BTreeSet (String Global)) → Option (List (List ℕ))
 shown_stems stems = option_map (λ set. map string_bytes set.keys) stems
 
--- the own stems of the units that other units start, if all units are asked for; otherwise None, and then no unit counts
--- as disabled
+-- the own stems of the units that other units start, if all units are asked for; otherwise None, and then no unit
+-- counts as disabled
 abbrev pub started_if_all : Machine → List (List ℕ) → Bool → Option (List (List ℕ))
 started_if_all machine path is_all = if is_all then Some (started_units machine path) else None
 
@@ -111,8 +113,8 @@ abbrev pub IsUnusableFault : reasons.Reason → List ℕ → TargetLoadFault →
 IsUnusableFault why file (faults.TheVariants.Target reason) = IsUnusableReason why file reason
 IsUnusableFault why file faults.TheVariants.NoMemory = ⊤
 
--- the error for the timer `name`: `file` is the path of its own file, `read` what is read there, and `files` has all its
--- files
+-- the error for the timer `name`: `file` is the path of its own file, `read` is what is read there, and `files` are all
+-- its files
 abbrev pub IsFileReason : Machine → FileRead → List ℕ → List ℕ → List UnitText → TargetReason → Type 0
 IsFileReason machine Mask file name files reason = ⊥
 IsFileReason machine (Unusable why) file name files reason = IsUnusableReason why file reason
@@ -145,7 +147,7 @@ abbrev pub IsFoundOf : Machine → List (List ℕ) → List ℕ → Result targe
 IsFoundOf machine path asked (Ok found) = IsLoadedUnit machine path asked found
 IsFoundOf machine path asked (Err fault) = IsUnitFault machine path asked (unit_on machine path asked) fault
 
--- the name, if what was found is masked
+-- a list of this name if what was found is masked, and otherwise an empty list
 abbrev pub masked_in : List ℕ → Result targets.LoadedTarget TargetLoadFault → List (List ℕ)
 masked_in name (Ok (targets.TheVariants.Timer timer)) = []
 masked_in name (Ok targets.TheVariants.Masked) = name ∷ []
@@ -161,7 +163,7 @@ is_absent_reason (target_reasons.TheVariants.NothingToDo own read) = false
 is_absent_reason (target_reasons.TheVariants.Expression fault) = false
 is_absent_reason (target_reasons.TheVariants.ExpressionZone zone reason) = false
 
--- whether a unit has no file, for example because its file is a link to nothing
+-- whether loading a unit failed because it has no file, for example because its file is a link to nothing
 abbrev pub is_absent : Result targets.LoadedTarget TargetLoadFault → Bool
 is_absent (Ok found) = false
 is_absent (Err (faults.TheVariants.Target reason)) = is_absent_reason reason
@@ -180,7 +182,7 @@ IsReported all name (Err fault) = HasFault all name fault
 
 -- ## Steps
 
--- `new` is `old` with this error of a target appended
+-- `new` is `old` with this error appended, which is about the target with this name
 abbrev pub IsFaultPushed : List TargetFault → List TargetFault → List ℕ → TargetLoadFault → Type 0
 IsFaultPushed old new name error =
     (fault : TargetFault) × (new ≡ old ++ fault ∷ []) × (string_bytes fault.target ≡ name) × (error ≡ faults.TheVariants.Target fault.reason)

@@ -29,15 +29,15 @@ abbrev pub AreOf : List (List ℕ) → List (TimerLine Fields) → Type 0
 AreOf texts entries =
     (map (λ entry. entry.text) entries ≡ texts) × All (λ entry. expr_in entry.text ≡ Ok entry.expr) entries
 
--- the timer has these entries as its expressions, no exceptions, this table of zones, and no lines that are ignored as
--- invalid or for their zone
+-- the timer has these entries as its expressions, no exceptions, this table of zones, and no lines that are ignored
+-- because an expression is invalid or because of their zone
 abbrev pub IsTimerOf : List (TimerLine Fields) → ZoneMap → LoadedTimer → Type 0
 IsTimerOf entries table timer =
     (expressions_in timer.calendar ≡ entries) × (exceptions_in timer.calendar ≡ []) × (timer.zones ≡ table)
     × (timer.files.ignored.items ≡ []) × (timer.files.unusable_zones.items ≡ [])
 
 -- the timer has these expressions and no exceptions, the zones of the machine that the expressions name, and no lines
--- that are ignored as invalid or for their zone
+-- that are ignored because an expression is invalid or because of their zone
 abbrev pub IsMadeOf : Machine → List (List ℕ) → LoadedTimer → Type 0
 IsMadeOf machine texts timer =
     AreOf texts (expressions_in timer.calendar) × (exceptions_in timer.calendar ≡ [])
@@ -104,7 +104,7 @@ abbrev pub IsParseError : List ℕ → TargetLoadFault → Type 0
 IsParseError text error =
     error ≢ faults.TheVariants.NoMemory → (fault : SpecFault) × (error ≡ faults.TheVariants.Target (Expression fault)) × (expr_in text ≡ Err fault)
 
--- there is nothing but this error, which is about the target with this name
+-- nothing was loaded, and the only error is this one, which is about the target with this name
 pub record HasOnlyFault (target : List ℕ) (error : TargetLoadFault) (loaded : Loaded) : Type 0 where
   pub timers : loaded.timers.items ≡ []
   pub masked : loaded.masked.items ≡ []
@@ -113,8 +113,8 @@ pub record HasOnlyFault (target : List ℕ) (error : TargetLoadFault) (loaded : 
   pub named : string_bytes fault.target ≡ target
   pub is_error : error ≡ faults.TheVariants.Target fault.reason
 
--- there is nothing but an error about the zone file at this path; its target is the text of the first entry that names
--- the zone, if an entry does
+-- nothing was loaded, and the only error is about the zone file at this path; its target is the text of the first entry
+-- that names the zone, if an entry does
 abbrev pub HasOnlyZoneFault : List (TimerLine Fields) → String Global → FileReason → Loaded → Type 0
 HasOnlyZoneFault entries path reason loaded =
     (target : List ℕ) × HasOnlyFault target (faults.TheVariants.Target (ExpressionZone path reason)) loaded

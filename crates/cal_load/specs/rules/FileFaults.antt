@@ -1,5 +1,6 @@
--- What can't be read of the files that targets stand for, and which errors say so: systemd.unit(5), Description and
--- Unit File Load Path. A target is how a user names timers, as in `AllTargets`, and its paths are those of `AllFiles`.
+-- What can't be read when the files that targets stand for are read, and which errors say so: systemd.unit(5),
+-- Description and Unit File Load Path. Something that can't be read is called lost. A target is how a user names
+-- timers, as in `AllTargets`, and its paths are those of `AllFiles`.
 use Rattle.std.specs.Prelude.{◌≡◌, ⊤, ◌⊎◌, ℕ, Bool, if◌then◌else◌, List, [], ◌∷◌, ◌++◌, All, Option, None, Some, map, string_bytes}
 use Rattle.std.specs.List.{Contains, flat_map, fold}
 use Rattle.cal_machine.specs.rules.Machine.{Machine}
@@ -28,8 +29,9 @@ use Rattle.cal_load.specs.declared.target_fault.TargetReason.TheVariants as targ
 
 -- ## What is lost
 
--- Why something can't be read: there is no such unit, or nothing is at its path; its name is that of a template; more
--- than 7 aliases lead from its name, one to the next; or what is at this path can't be used, for this reason.
+-- Why something can't be read: there is no such unit, or nothing is at the path (`Absent`); the name is that of a
+-- template (`IsTemplate`); more than 7 aliases lead from the name, one to the next (`ManyAliases`); or what is at this
+-- path can't be used, for this reason (`UnusableAt`).
 pub data Cause : Type 0 where
   Absent : Cause
   IsTemplate : Cause
@@ -47,7 +49,7 @@ lost_as name (Some cause) = record { name = name; cause = cause } ∷ []
 
 -- ## Files
 
--- why a file is lost, given the reason why what is at its path can't be used
+-- why a file is lost, given the reason why its path can't be used
 abbrev pub cause_of : List ℕ → Reason → Cause
 cause_of path (reasons.Unreadable why) = UnusableAt path (reasons.Unreadable why)
 cause_of path reasons.IsFolder = UnusableAt path reasons.IsFolder
@@ -74,7 +76,7 @@ lost_path fault = record { name = fault.path; cause = UnusableAt fault.path faul
 abbrev pub lost_drop_in : Machine → List ℕ → List Lost
 lost_drop_in machine path = map lost_path (fault_at machine path)
 
--- what can't be read of the drop-ins of a unit with these names: drop-in folders, and then drop-ins
+-- the drop-in folders, and then the drop-ins, that can't be read for a unit with these names
 abbrev pub lost_drop_ins : Machine → List (List ℕ) → List (List ℕ) → List Lost
 lost_drop_ins machine path names =
     map lost_path (unread_folders machine path Timer names)
@@ -87,8 +89,8 @@ cause_of_unit machine TemplateOnly = Some IsTemplate
 cause_of_unit machine TooManyAliases = Some ManyAliases
 cause_of_unit machine (FoundAt file own_file own) = cause_at file (file_at machine file)
 
--- What can't be read of the drop-ins of a unit that was asked for by the stem `asked`. A unit whose own file is not a
--- text has no drop-ins.
+-- The drop-in folders and drop-ins that can't be read for a unit that was asked for by the stem `asked`. A unit whose
+-- own file is not a text has no drop-ins.
 abbrev pub lost_of_unit : Machine → List (List ℕ) → List ℕ → Unit → List Lost
 lost_of_unit machine path asked Unfound = []
 lost_of_unit machine path asked TemplateOnly = []
@@ -96,7 +98,7 @@ lost_of_unit machine path asked TooManyAliases = []
 lost_of_unit machine path asked (FoundAt file own_file own) =
     if is_text (file_at machine file) then lost_drop_ins machine path (names_on machine path own_file own asked) else []
 
--- why the unit with this stem is lost, if it is; a name that isn't valid has no stem
+-- why the unit with this stem is lost, if it is; if there is no stem, since the name isn't valid, there is no such unit
 abbrev pub cause_if_valid : Machine → List (List ℕ) → Option (List ℕ) → Option Cause
 cause_if_valid machine path None = Some Absent
 cause_if_valid machine path (Some stem) = cause_of_unit machine (unit_on machine path stem)
@@ -105,13 +107,13 @@ abbrev pub lost_if_valid : Machine → List (List ℕ) → Option (List ℕ) →
 lost_if_valid machine path None = []
 lost_if_valid machine path (Some stem) = lost_of_unit machine path stem (unit_on machine path stem)
 
--- what can't be read of the unit with the name that a user gave
+-- what can't be read for the name of a unit that a user gave: drop-in folders and drop-ins, and then the unit itself
 abbrev pub lost_named : Machine → List (List ℕ) → List ℕ → List Lost
 lost_named machine path name =
     lost_if_valid machine path (unit_stem name) ++ lost_as name (cause_if_valid machine path (unit_stem name))
 
--- the cause, unless it is `Absent`: a unit of the search path that has no file, for example because it is a link to
--- nothing, is skipped
+-- the cause, unless it is `Absent`: a unit of the search path is skipped if it has no file, for example because its
+-- file is a link to nothing
 abbrev pub unless_absent : Option Cause → Option Cause
 unless_absent None = None
 unless_absent (Some Absent) = None
@@ -119,7 +121,7 @@ unless_absent (Some IsTemplate) = Some IsTemplate
 unless_absent (Some ManyAliases) = Some ManyAliases
 unless_absent (Some (UnusableAt path why)) = Some (UnusableAt path why)
 
--- what can't be read of a unit of the search path
+-- what can't be read for a unit of the search path: drop-in folders and drop-ins, and then the unit itself
 abbrev pub lost_listed : Machine → List (List ℕ) → List ℕ → List Lost
 lost_listed machine path stem =
     lost_of_unit machine path stem (unit_on machine path stem)
@@ -127,7 +129,8 @@ lost_listed machine path stem =
 
 -- ## Targets
 
--- what can't be read of the texts in a folder: its names, or files in it
+-- what can't be read when the timers and drop-ins directly in a folder are read: the folder itself, or else some of
+-- these files
 abbrev pub lost_texts : Machine → List ℕ → List Lost
 lost_texts machine folder =
     map lost_path (faults_of_listing folder (names_at machine folder))
@@ -138,24 +141,24 @@ abbrev pub lost_units : Machine → List ℕ → List Lost
 lost_units machine folder =
     flat_map (lost_listed machine (folder ∷ [])) (units_in_folder machine folder) ++ map lost_path (unread_in_folder machine folder)
 
--- what can't be read of a folder
+-- what can't be read when a folder is read: what `lost_texts` lists, and then what `lost_units` lists
 abbrev pub lost_folder : Machine → List ℕ → List Lost
 lost_folder machine folder = lost_texts machine folder ++ lost_units machine folder
 
 abbrev pub lost_at : Machine → List ℕ → List Lost
 lost_at machine path = if is_folder (end_at machine path) then lost_folder machine path else lost_file machine path
 
--- what can't be read of what a target stands for
+-- what can't be read for a target, which is a path or the name of a unit
 abbrev pub lost_by : Machine → List (List ℕ) → List ℕ → List Lost
 lost_by machine path target =
     if is_path target then lost_at machine (without_slashes target) else lost_named machine path target
 
--- what can't be read of the folders that say which units are started
+-- the folders that can't be read among those that say which units are started
 abbrev pub lost_starts : Machine → List (List ℕ) → List Lost
 lost_starts machine path = map lost_path (unreadable_wants machine path)
 
--- What can't be read if no target is given: files and drop-ins of the units that are taken, and folders that say which
--- units are started.
+-- What can't be read if no target is given: files and drop-ins of the units that are then loaded, and folders that say
+-- which units are started.
 abbrev pub all_lost : Machine → List (List ℕ) → Bool → List Lost
 all_lost machine path is_all = flat_map (lost_listed machine path) (units_on machine path is_all) ++ lost_starts machine path
 
@@ -177,8 +180,8 @@ pub record IsFaultOf (lost : Lost) (fault : TargetFault) : Type 0 where
 abbrev pub IsFaultOfOne : List Lost → TargetFault → Type 0
 IsFaultOfOne all fault = (lost : Lost) × Contains all lost × IsFaultOf lost fault
 
--- The error's target is `name`, except if a path can't be used: that is reported once, and the target may be another
--- one that leads to the same path.
+-- The error's target is `name`. But if a path can't be used, the target may be another one: the path is reported only
+-- once, and several targets can lead to it.
 abbrev pub IsAbout : List ℕ → Cause → TargetFault → Type 0
 IsAbout name Absent fault = string_bytes fault.target ≡ name
 IsAbout name IsTemplate fault = string_bytes fault.target ≡ name
@@ -206,14 +209,14 @@ IsCauseIf None (Some reason) = ⊥
 IsCauseIf (Some cause) None = ⊥
 IsCauseIf (Some cause) (Some reason) = IsCause cause reason
 
--- `new` is `old` with the errors of what is lost
+-- `new` has the errors of `old` and errors about everything in `more`, and no others
 pub record AreLostAlso (more : List Lost) (old new : List TargetFault) : Type 0 where
   pub kept : Keeps old new
   pub true_of : (fault : TargetFault) → Contains new fault → Contains old fault ⊎ IsFaultOfOne more fault
   pub whole : All (IsLostIn new) more
 
--- between `old` and `new` these paths were tried, except those that had been tried before, and the errors of what is
--- lost were added
+-- between `old` and `new` these paths were tried, except those that had been tried before, and the errors about
+-- everything in `lost` were added
 abbrev pub AreReadAlso : Machine → List (List ℕ) → List Lost → Reading → Reading → Type 0
 AreReadAlso machine more lost old new =
     (paths : List (List ℕ)) → AreTried machine paths old

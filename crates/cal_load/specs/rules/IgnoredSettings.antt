@@ -1,6 +1,7 @@
--- The settings of a timer that systemd ignores for reasons that a line by itself doesn't show: values that are
--- invalid once their specifiers are filled in, and each `Unit=` that doesn't count (systemd.timer(5), Options;
--- systemd.unit(5), Specifiers). Values that are invalid without specifiers aren't among them.
+-- The settings of a timer that systemd ignores for reasons that a line by itself doesn't show: values that are invalid
+-- once their specifiers are filled in, and each `Unit=` that doesn't count (systemd.timer(5), Options; systemd.unit(5),
+-- Specifiers). A setting whose value is invalid and has no specifiers is left out, unless it is a `Unit=` after the one
+-- that counts.
 use Rattle.std.specs.Prelude.{ℕ, nat_lt, Bool, false, not, ◌&&◌, if◌then◌else◌, List, ◌∷◌, [], Option, Some, None, option_map}
 use Rattle.std.specs.List.{filter_map, list_any}
 use Rattle.std.specs.Option.{option_or}
@@ -18,23 +19,24 @@ use Rattle.cal_load.specs.rules.Loaded.{assignments_of_files, timer_assignments}
 use Rattle.cal_load.specs.rules.Notes.{is_taken, kept_in, unit_line}
 use Rattle.cal_load.specs.rules.Resolved.{resolved_in}
 
--- whether the timer `name` has a valid value in this assignment, with specifiers filled in; a value that depends on the
--- running system is taken as valid
+-- whether the value of this assignment of the timer `name` is valid once its specifiers are filled in; a value that
+-- depends on the running system is taken as valid
 abbrev pub is_valid_for : List ℕ → Assignment → Bool
 is_valid_for name a = list_any is_taken (resolved_in name (a ∷ []))
 
 abbrev pub has_value : List ℕ → Assignment → Bool
 has_value value a = is_taken a && bytes_eq a.value value
 
--- whether the timer's own name is the valid value of this assignment, with specifiers filled in
+-- whether the value of this assignment, with its specifiers filled in, is valid and is the timer's own name
 abbrev pub names_itself : List ℕ → Assignment → Bool
 names_itself name a = list_any (has_value (last_part name)) (resolved_in name (a ∷ []))
 
--- the reason if the value has specifiers and isn't valid
+-- why systemd ignores a setting whose value has specifiers and isn't valid once they are filled in; None for other
+-- settings
 abbrev pub value_fault : SettingKind → List ℕ → Assignment → Option WhyIgnored
 value_fault kind name a = if has_percent a.value && not (is_valid_for name a) then Some (BadValue kind) else None
 
--- the reason if a `Unit=` names the timer itself
+-- why systemd ignores a `Unit=` that names the timer itself; None for any other `Unit=`
 abbrev pub name_fault : List ℕ → Assignment → Option WhyIgnored
 name_fault name a = if names_itself name a then Some OwnName else None
 
@@ -43,8 +45,8 @@ abbrev pub is_below : Option ℕ → ℕ → Bool
 is_below None number = false
 is_below (Some counted) number = nat_lt counted number
 
--- why systemd ignores a `Unit=` of the timer `name`, if the one in the line `counted` counts: systemd doesn't look at
--- the value of any `Unit=` below that line
+-- why systemd ignores a `Unit=` of the timer `name`; `counted` is the line whose `Unit=` counts, and systemd doesn't
+-- look at the value of any `Unit=` below this line
 abbrev pub unit_fault : List ℕ → Option ℕ → Assignment → Option WhyIgnored
 unit_fault name counted a =
     if is_below counted a.number then Some SecondUnit else option_or (value_fault Started name a) (name_fault name a)
@@ -54,7 +56,9 @@ fault_as (Some Monotonic) name counted a = value_fault Monotonic name a
 fault_as (Some Started) name counted a = unit_fault name counted a
 fault_as _ name counted a = None
 
--- why systemd ignores an assignment of the timer `name`, or None if it doesn't, or if its value is invalid by itself
+-- Why systemd ignores an assignment of the timer `name`, or None if it doesn't. Only monotonic timers and `Unit=` are
+-- examined. If a value is invalid and has no specifiers, the result is also None, unless the assignment is a `Unit=`
+-- below the line `counted`.
 unfoldable pub why_ignored : List ℕ → Option ℕ → Assignment → Option WhyIgnored
 why_ignored name counted a = fault_as (kind_of a.key) name counted a
 

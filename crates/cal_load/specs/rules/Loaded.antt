@@ -121,7 +121,7 @@ IsCalendarOf name files table calendar =
     × (exceptions_in calendar ≡ filter (has_zone table) (exceptions_of_files name files))
 
 -- The files of the timer `name` start its unit: by a valid expression that isn't cleared later and whose zone is in the
--- table, or else by one that depends on more than the timer's name, or by another setting.
+-- table, or else by an expression that depends on more than the timer's name, or by another setting.
 abbrev pub IsStarted : List ℕ → List UnitText → ZoneMap → Type 0
 IsStarted name files table =
     filter (has_zone table) (expressions_of_files name files) ≡ [] → unclear_of_files name files ≡ []
@@ -213,13 +213,14 @@ IsCalendarBy assignments calendar =
     (expressions_in calendar ≡ entries_of expr_in (listed assignments))
     × (exceptions_in calendar ≡ entries_of expr_in (excepted assignments))
 
--- the calendar has the valid expressions and exceptions of these assignments, and the lines of the others are ignored
+-- the calendar has the valid expressions and exceptions of these assignments that aren't cleared later, and the ignored
+-- lines are those of the invalid ones
 abbrev pub AreReadFrom : List Assignment → CalendarLines → Type 0
 AreReadFrom assignments read =
     IsCalendarBy assignments read.calendar × (read.ignored.items ≡ ignored_in expr_in assignments)
 
--- `is_started` says whether a unit is started by one of its unclear expressions or, as `starts` says, by another
--- setting
+-- `is_started` is true if and only if one of the unclear expressions, which depend on more than the timer's name,
+-- starts the unit, or if another setting does, which `starts` says
 abbrev pub IsStartedBy : List Assignment → Bool → Bool → Type 0
 IsStartedBy unclear starts is_started =
     (is_started ≡ true → unclear ≡ [] → starts ≡ true) × (is_started ≡ false → (unclear ≡ []) × (starts ≡ false))
@@ -229,12 +230,12 @@ abbrev pub entries_after : Bool → Bool → List (TimerLine Fields) → Assignm
 entries_after adds empties entries a =
     if adds then entries ++ entries_of expr_in (a ∷ []) else (if empties then [] else entries)
 
--- the lines that are ignored because of one more assignment, which may add an entry to a list
+-- the ignored line of one more assignment, if it adds an entry to a list and its expression is invalid
 abbrev pub ignored_more : Bool → Assignment → List IgnoredLine
 ignored_more adds a = if adds then option_to_list (ignored_line a (expr_in a.value)) else []
 
--- Each of the entries has a zone in the table or names none, or one of the lines is for it. The lines are in the order
--- of the entries.
+-- For each of the entries, the table has the zone that the entry names, or the entry names none, or one of the lines
+-- says why the zone can't be used. The lines are in the order of the entries.
 abbrev pub AreTried : Machine → ZoneMap → List (TimerLine Fields) → List UnusableZone → Type 0
 AreTried machine table [] lines = lines ≡ []
 AreTried machine table (entry ∷ entries) lines =
@@ -255,7 +256,7 @@ pub record IsTried (machine : Machine) (entries : List (TimerLine Fields)) (foun
   pub lines : AreTried machine found.zones entries found.unusable.items
 
 -- `new` is the calendar `old` without the expressions and exceptions whose zone can't be used, and `found` has the
--- zones that the others name
+-- zones that the remaining ones name
 pub record IsZoned (machine : Machine) (old new : calendars.Calendar) (found : CalendarZones) : Type 0 where
   pub expressions : expressions_in new ≡ filter (has_zone found.zones) (expressions_in old)
   pub exceptions : exceptions_in new ≡ filter (has_zone found.zones) (exceptions_in old)

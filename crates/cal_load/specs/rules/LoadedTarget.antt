@@ -36,7 +36,7 @@ IsMasked machine TooManyAliases = ⊥
 IsMasked machine (FoundAt file own_file own) = file_at machine file ≡ Mask
 
 -- what was found for a unit that has its own file at the path `file`: either a timer that has the unit's own name, and
--- was read from this file and the unit's drop-ins, or a mask
+-- was read from this file and the unit's drop-ins, or only that the unit is masked, because this file is a mask
 abbrev pub IsFoundTarget : Machine → List (List ℕ) → List ℕ → List ℕ → List ℕ → List ℕ → targets.LoadedTarget → Type 0
 IsFoundTarget machine path file own_file own asked (targets.TheVariants.Timer timer) =
     (string_bytes timer.name ≡ own ++ codes ".timer")

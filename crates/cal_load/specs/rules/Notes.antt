@@ -17,8 +17,8 @@ use Rattle.cal_settings.specs.rules.Settings.{is_longer, is_taken_as, is_yes, ki
 unfoldable pub is_taken : Assignment → Bool
 is_taken a = is_taken_as (kind_of a.key) a.value
 
--- Whether the last assignment with a key of this kind replaces those before it. All monotonic timers count, and the
--- first `Unit=` does.
+-- Whether the last assignment with a key of this kind replaces those before it. Of monotonic timers, all assignments
+-- count, and of `Unit=`, the first. Flags are never noted.
 abbrev pub last_counts : Option SettingKind → Bool
 last_counts (Some Change) = true
 last_counts (Some Switch) = true
@@ -35,12 +35,13 @@ unfoldable pub replaces : Assignment → Bool
 replaces a = last_counts (kind_of a.key) && is_taken a
 
 -- whether the assignment `later` undoes `a`, which comes before it: an empty value of `OnCalendar=` or of a monotonic
--- timer undoes all monotonic timers, and a valid value of a key whose last value counts undoes those before it
+-- timer undoes all monotonic timers, and a valid value of a key whose last value counts undoes the earlier values of
+-- this key
 unfoldable pub undoes : Assignment → Assignment → Bool
 undoes later a = (is_reset later && is_monotonic (kind_of a.key)) || (replaces later && bytes_eq a.key later.key)
 
--- the assignments with a key that can be noted and a value that systemd accepts, except those that a later assignment
--- undoes, in order; each valid `Unit=` is among them
+-- the assignments whose key is that of some kind of setting and whose value systemd accepts, in order, except those
+-- that a later assignment undoes; each valid `Unit=` is among them
 unfoldable pub kept_in : List Assignment → List Assignment
 kept_in [] = []
 kept_in (a ∷ after) =
@@ -85,7 +86,7 @@ is_at (Some line) number = line == number
 abbrev pub default_accuracy : ℕ
 default_accuracy = 60000000
 
--- whether a setting of this kind is noted, if the timer starts the unit `service` by default and `unit` is the
+-- whether a setting of this kind is noted; `service` is the unit that the timer starts by default, and `unit` is the
 -- line whose `Unit=` counts
 abbrev pub is_noted_as : Option SettingKind → List ℕ → Option ℕ → Assignment → Bool
 is_noted_as None service unit a = false

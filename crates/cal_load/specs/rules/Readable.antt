@@ -94,8 +94,8 @@ abbrev pub no_lines : List Line → Bool
 no_lines [] = true
 no_lines (line ∷ lines) = false
 
--- Why systemd stops at a logical line of the text, if `after` are the lines after it. The last line of a cut text
--- replaces a line that isn't UTF-8.
+-- Why systemd stops at a logical line of the text, or None if it doesn't; `after` are the lines after it. The last line
+-- of a cut text replaces a line that isn't UTF-8.
 unfoldable pub reason_in : Bool → Line → List Line → Option BrokenReason
 reason_in is_cut line after = if is_cut && no_lines after then Some NotUtf8 else reason_at line
 

@@ -65,11 +65,12 @@ unclear_in name assignments = filter (is_unclear_expression (last_part name)) (a
 
 -- ## Steps
 
--- the unclear expressions after an assignment that may clear them
+-- the unclear expressions, which depend on more than the timer's name, after an assignment that may clear them
 abbrev pub after_reset : List Assignment → Assignment → List Assignment
 after_reset unclear a = if is_reset a then [] else unclear
 
--- the unclear expression in an assignment that depends on more than the timer's name
+-- the unclear expression that an assignment adds if its value depends on more than the timer's name; only an expression
+-- adds one
 abbrev pub unclear_of : Assignment → List Assignment
 unclear_of a = if is_expression a then (a ∷ []) else []
 

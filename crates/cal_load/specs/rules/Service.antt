@@ -1,8 +1,8 @@
 -- Whether a service asks `calendar-timers due` before it is started: systemd.service(5), ExecCondition= and Command
 -- Lines; systemd.unit(5), Description and Unit File Load Path. The stem of a service is its name without `.service`.
 --
--- What can't be read of a service counts as absent. The aliases of a service aren't followed: only the files with its own
--- name count.
+-- Files and folders of a service that can't be read count as absent. The aliases of a service aren't followed: only the
+-- files with its own name count.
 use Rattle.std.specs.Prelude.{ℕ, ◌==◌, nat_eq, Bool, false, not, ◌&&◌, ◌||◌, if◌then◌else◌, List, [], ◌∷◌, ◌++◌, Option, None, codes, filter, find, length, map}
 use Rattle.std.specs.List.{after_last, ends_with, flat_map, list_any}
 use Rattle.std.specs.Option.{option_map, option_or, option_to_list}
@@ -62,7 +62,7 @@ conditions assignments = after_last has_no_value (filter is_condition assignment
 
 -- ## Commands
 
--- the prefixes of a command, of which it can have several
+-- whether the byte is one of the prefixes of a command, which can have several
 abbrev pub is_prefix : ℕ → Bool
 is_prefix b = list_any (nat_eq b) (codes "@-:+!")
 
@@ -76,15 +76,15 @@ abbrev pub fits_manager : Bool → List (List ℕ) → Bool
 fits_manager is_user arguments =
     if is_user then is_among arguments (codes "--user") else not (is_among arguments (codes "--user"))
 
--- whether these words run `calendar-timers due`
+-- whether a command with these words runs `calendar-timers due`
 abbrev pub words_ask : Bool → List (List ℕ) → Bool
 words_ask is_user [] = false
 words_ask is_user (program ∷ arguments) =
     is_our_program (trim_start_matches is_prefix program)
     && (is_among arguments (codes "due") && fits_manager is_user arguments)
 
--- Whether a command runs `calendar-timers due`. It is split at blanks: quoted words aren't taken apart, and nor are
--- several commands that `;` separates.
+-- Whether a command runs `calendar-timers due`. The command is only split at blanks: quotes aren't interpreted, and
+-- several commands that `;` separates are read as one.
 unfoldable pub command_asks : Bool → List ℕ → Bool
 command_asks is_user command = words_ask is_user (words command)
 
@@ -92,14 +92,15 @@ command_asks is_user command = words_ask is_user (words command)
 unfoldable pub any_asks : Bool → List Assignment → Bool
 any_asks is_user assignments = list_any (λ a. command_asks is_user a.value) (conditions assignments)
 
--- whether the service with this stem asks on a machine with this search path; `is_user` says whether it is a unit of a
--- user
+-- whether the service with this stem runs `calendar-timers due` as a condition, on a machine with this search path;
+-- `is_user` says whether it is a unit of a user
 abbrev pub asks_due_on : Machine → List (List ℕ) → Bool → List ℕ → Bool
 asks_due_on machine path is_user stem = any_asks is_user (service_assignments (service_files machine path stem))
 
 -- ## Steps
 
--- whether one of the conditions asks once this assignment is read, too; `asks` says it for the assignments before it
+-- whether one of the conditions runs `calendar-timers due`, after one more assignment; `asks` says whether one of the
+-- conditions before it does
 abbrev pub asks_after : Bool → Bool → Assignment → Bool
 asks_after is_user asks a =
     if is_condition a then (if has_no_value a then false else asks || command_asks is_user a.value) else asks

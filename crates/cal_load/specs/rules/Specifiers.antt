@@ -1,5 +1,5 @@
--- Specifiers in the values of a timer's files, and what systemd 252 fills in for them: systemd.unit(5), Specifiers. Only
--- the timer's own name is known here.
+-- Specifiers in the values of a timer's files, and what systemd 252 fills in for them: systemd.unit(5), Specifiers.
+-- Only the timer's own name is known here.
 use Rattle.std.specs.Prelude.{ℕ, ◌+◌, ◌*◌, ◌==◌, nat_lt, Bool, false, ◌&&◌, ◌||◌, if◌then◌else◌, List, [], ◌∷◌, ◌++◌, codes, map, string_bytes}
 use Rattle.std.specs.Char.{digit_value}
 use Rattle.std.specs.List.{after_last, list_any, slice_split}
@@ -59,13 +59,13 @@ is_hex b = nat_lt (digit_value b) 16
 abbrev pub hex_value : ℕ → ℕ → ℕ
 hex_value high low = digit_value high * 16 + digit_value low
 
--- whether these three bytes are an `x` and two hexadecimal digits that aren't both 0; systemd 252 accepts `\x00`, too, but
--- drops the rest of the escaped text
+-- whether these three bytes are an `x` and two hexadecimal digits that aren't both 0; systemd 252 accepts `\x00`, too,
+-- but drops the rest of the escaped text
 abbrev pub is_escape : ℕ → ℕ → ℕ → Bool
 is_escape x high low = (x == 120) && ((is_hex high && is_hex low) && nat_lt 0 (hex_value high low))
 
--- what a backslash and the text after it, up to the next backslash, stand for: `\x` and two hexadecimal digits stand for
--- a byte, and no other escapes are valid; the argument is the text without the backslash
+-- what a backslash and the text after it, up to the next backslash, stand for: `\x` and two hexadecimal digits stand
+-- for a byte, and no other escapes are valid; the argument is the text without the backslash
 abbrev pub after_backslash : List ℕ → Filling
 after_backslash [] = Invalid
 after_backslash (x ∷ []) = Invalid
@@ -153,7 +153,7 @@ abbrev pub filling_of : List ℕ → Part → Filling
 filling_of name (Byte b) = Text (b ∷ [])
 filling_of name (Specifier letter) = specified name letter
 
--- a text that isn't UTF-8 is invalid
+-- what a value stands for, or `Invalid` if it would stand for a text that isn't UTF-8
 abbrev pub checked : Filling → Filling
 checked (Text bytes) = if is_utf8 bytes then Text bytes else Invalid
 checked Unclear = Unclear
@@ -165,7 +165,7 @@ filled_of name value = checked (all_joined (map (filling_of name) (parts_of valu
 
 -- ## Values of `Unit=`
 
--- whether systemd 252 doesn't know the specifier with this letter in `Unit=`, though it knows it elsewhere
+-- whether the specifier with this letter is one that systemd 252 knows elsewhere, but not in `Unit=`
 unfoldable pub is_unknown_in_unit : ℕ → Bool
 is_unknown_in_unit letter = list_any (λ other. other == letter) (codes "cCdEfhIJLPrRsStTVyY")
 

@@ -18,7 +18,7 @@ use Rattle.cal_load.specs.rules.Specifiers.{instance_in, prefix_in}
 
 -- ## Names
 
--- the suffixes of the units that are looked for: these units need a file, and can be instances of a template
+-- the suffixes of the units that can be missing: these units need a file, and can be instances of a template
 abbrev pub file_suffixes : List (List ℕ)
 file_suffixes = codes ".service" ∷ codes ".socket" ∷ codes ".target" ∷ codes ".path" ∷ codes ".timer" ∷ []
 
@@ -35,8 +35,8 @@ argument_by Plain own = prefix_in own
 argument_by Template own = instance_in own
 argument_by Instance own = instance_in own
 
--- the instance of a template that the timer `own` starts if its `Unit=` names the template: the timer's own instance, or
--- its name without the suffix if it isn't an instance
+-- the instance of a template that the timer `own` starts if its `Unit=` names the template: the timer's own instance,
+-- or its name without the suffix if it isn't an instance
 abbrev pub argument_of : List ℕ → List ℕ
 argument_of own = argument_by (unit_kind_of (without_suffix own)) own
 
@@ -51,7 +51,7 @@ completed own unit =
 abbrev pub unit_named : List ℕ → List ℕ → Option (List ℕ)
 unit_named own unit = if has_percent unit then None else Some (completed own unit)
 
--- the unit that the timer `own` starts; the assignment is that of the `Unit=` that counts, if there is one
+-- the unit that the timer `own` starts; the assignment is the `Unit=` that counts, if there is one
 abbrev pub started_by : List ℕ → Option Assignment → Option (List ℕ)
 started_by own None = Some (service_of own)
 started_by own (Some a) = unit_named own a.value
@@ -72,7 +72,8 @@ abbrev pub has_template : List Searched → List ℕ → List ℕ → Bool
 has_template folders unit suffix =
     if length (stem_base unit) == length unit then false else has_entry folders (stem_base unit ++ codes "@" ++ suffix)
 
--- whether these folders have neither a unit with this suffix nor its template; a unit without a suffix needs no file
+-- whether these folders have neither a unit with this suffix nor its template; None stands for the suffix of a unit
+-- that needs no file, so such a unit isn't missing
 abbrev pub is_missing_with : List Searched → List ℕ → Option (List ℕ) → Bool
 is_missing_with folders unit None = false
 is_missing_with folders unit (Some suffix) = not (has_entry folders unit || has_template folders unit suffix)

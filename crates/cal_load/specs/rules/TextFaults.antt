@@ -61,8 +61,8 @@ StartNothing machine name files =
     All (NamesUnusableZone machine) (expressions_of_files name files) × (unclear_of_files name files ≡ [])
     × (starts_unit (timer_assignments name files) ≡ false)
 
--- nothing starts the unit of the timer `name`, and `read` has its files, with the lines in them that are ignored;
--- only zones whose zone file on the machine is valid are in the table
+-- nothing starts the unit of the timer `name`, and `read` has its files, with the lines in them that are ignored; the
+-- table of zones that decides which lines are ignored has only zones of the machine's valid zone files
 abbrev pub HasNothingToDo : Machine → List ℕ → List UnitText → TimerFiles → Type 0
 HasNothingToDo machine name files read =
     StartNothing machine name files
@@ -80,7 +80,7 @@ IsZonesError machine names zone_faults.NoMemory = ⊤
 
 -- ## All errors of files
 
--- why files don't make a timer
+-- why these files don't make a timer
 abbrev pub IsTextReason : Machine → List ℕ → List UnitText → TargetReason → Type 0
 IsTextReason machine name files NotFound = ⊥
 IsTextReason machine name files Template = ⊥

@@ -51,7 +51,8 @@ shown_listing found = record { names = map string_bytes found.names.items; unnam
 abbrev pub bytes_of : Vec ℕ Global → List ℕ
 bytes_of bytes = bytes.items
 
--- whether `P` is true of what a call said about the machine, as `view` shows it; if memory ran out, it said nothing
+-- whether `P` is true of what a call said about the machine, as `view` shows it; if memory ran out, the call said
+-- nothing, and this holds for any `P`
 abbrev pub IfSaid : {X Y : Type 0} → (X → Y) → Result X faults.TreeFault → (Result Y Unreadable → Type 0) → Type 0
 IfSaid view (Ok found) P = P (Ok (view found))
 IfSaid view (Err (faults.TheVariants.Unreadable why)) P = P (Err why)

@@ -66,8 +66,8 @@ abbrev pub is_last : List (List ℕ) → Bool
 is_last [] = true
 is_last (part ∷ rest) = false
 
--- The place of a path that can't go on from this entry; `rest` are the parts that are left. If there are any, nothing
--- is at the place, and its path ends with them, unresolved.
+-- The place at which a path ends if it can't go on from this entry; `rest` are the parts of the path that are left. If
+-- there are any, nothing is at the place, and its path ends with these parts, unresolved.
 abbrev pub place_at : List ℕ → List (List ℕ) → Entry → Place
 place_at path rest entry = record { path = path ++ flat_map below rest; entry = if is_last rest then entry else Missing }
 

@@ -9,7 +9,7 @@ use Rattle.cal_machine.specs.declared.tree.Unreadable.{Unreadable}
 use Rattle.cal_machine.specs.rules.Machine.{Machine, bytes_of, shown_entry, shown_listing}
 use Rattle.cal_machine.specs.rules.Seen.{Said, EntryIs, NamesAre, FileIs, VariableIs, Seen, seen}
 
--- what a call returns if this is its answer
+-- what a call returns if this is its answer, which may be that something can't be read
 abbrev pub answered : {X : Type 0} → Result X Unreadable → Result X faults.TreeFault
 answered (Ok found) = Ok found
 answered (Err why) = Err (faults.TheVariants.Unreadable why)

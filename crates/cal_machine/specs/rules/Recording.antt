@@ -13,7 +13,8 @@ read_by tree = seen_of tree.entries tree.names tree.files tree.variables
 pub read_by-given : {R : Type 0} {raw : Ghosts R} (tree : Recorder R raw) → AllGiven raw.gives (read_by tree)
 read_by-given {R} {raw} tree = given raw.gives tree.entries tree.names tree.files tree.variables tree.honest
 
--- `shows` of a recorder is true of each machine that agrees with what the recorder has read
+-- a machine that agrees with what a recorder has read agrees with all its recorded answers, which is what the
+-- recorder's `shows` says
 pub read_by-shows : {R : Type 0} {raw : Ghosts R} (tree : Recorder R raw) (machine : Machine) → Matches (read_by tree) machine
     → AgreesWith tree.entries tree.names tree.files tree.variables machine
 read_by-shows tree machine same = agrees tree.entries tree.names tree.files tree.variables machine same

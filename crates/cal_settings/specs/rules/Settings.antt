@@ -25,7 +25,7 @@ keys_of Flag = codes "WakeSystem" ∷ codes "RemainAfterElapse" ∷ []
 abbrev pub all_kinds : List SettingKind
 all_kinds = Monotonic ∷ Change ∷ Switch ∷ Delay ∷ Accuracy ∷ Started ∷ Flag ∷ []
 
--- the kind of the settings with this key, or None if they are of no kind
+-- the kind of the settings with this key, or None if no kind has this key
 unfoldable pub kind_of : List ℕ → Option SettingKind
 kind_of key = find (λ kind. list_any (bytes_eq key) (keys_of kind)) all_kinds
 
@@ -66,7 +66,7 @@ is_longer least value = is_infinity value || is_span_over least (span_of value)
 abbrev pub has_percent : List ℕ → Bool
 has_percent value = list_any (nat_eq 37) value
 
--- the suffixes of units (systemd.unit(5), Description)
+-- the suffixes of the names of units (systemd.unit(5), Description)
 abbrev pub unit_suffixes : List (List ℕ)
 unit_suffixes =
     codes ".service" ∷ codes ".socket" ∷ codes ".device" ∷ codes ".mount" ∷ codes ".automount" ∷ codes ".swap"
@@ -86,9 +86,9 @@ is_unit_name name =
 
 -- ## Values of each kind
 
--- Whether systemd accepts this value for a setting of this kind; it ignores an assignment with any other value. If a
--- value of a monotonic timer or of `Unit=` has a `%`, what it stands for may depend on the running system, and the
--- value is taken as valid. No value is accepted for a setting of no kind (`None`).
+-- Whether systemd accepts this value for a setting of this kind. systemd ignores an assignment with a value that it
+-- doesn't accept. A value of a monotonic timer or of `Unit=` that has a `%` is taken as valid, since what its
+-- specifiers stand for may depend on the running system. Without a kind (`None`), no value is accepted.
 abbrev pub is_taken_as : Option SettingKind → List ℕ → Bool
 is_taken_as None value = false
 is_taken_as (Some Monotonic) value = has_percent value || is_span value

@@ -29,8 +29,8 @@ uncounted slot = 0
 abbrev pub counted_to : ℕ → Slot → Option (List Part) → ℕ
 counted_to before slot parts = before + (parts_in parts - uncounted slot)
 
--- The piece has this error: it is the first part above the limit, or it isn't a part. `number` is the number of counted
--- parts up to and including this piece. The syntax of a part above the limit isn't checked.
+-- The piece has this error: it is the first part above the limit, or its syntax is wrong. `number` is the number of
+-- counted parts up to and including this piece. The syntax of a part above the limit isn't checked.
 abbrev pub HasPieceFault : Slot → ℕ → List ℕ → SpecFault → Type 0
 HasPieceFault slot number piece fault =
     ((number ≡ max_counted_parts + 1) × (fault ≡ TooManyParts)) ⊎ ((number ≤ max_counted_parts) × HasPartFault slot piece fault)

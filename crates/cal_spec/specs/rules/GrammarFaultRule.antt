@@ -24,7 +24,7 @@ HasWeekdaysFault (Some word) fault =
     ((days : List Bool) → AreWeekdays word days → ⊥)
     × ((IsUnknownShorthand word × (fault ≡ UnknownShorthand)) ⊎ ((IsUnknownShorthand word → ⊥) × (fault ≡ BadWeekday)))
 
--- the number of counted parts of the date, which are all its parts
+-- the number of counted parts of the date; all parts of a date are counted
 abbrev pub counted_in_date : Fields → ℕ
 counted_in_date f = parts_in f.year + parts_in f.month + parts_in f.day
 

@@ -7,7 +7,7 @@ use Rattle.cal_tasks.specs.declared.clock_note.ClockChange.{ClockChange}
 use Rattle.cal_tasks.specs.declared.clock_note.ClockChange.TheVariants.{Skipped, Repeated}
 use Rattle.cal_tasks.specs.declared.clock_shift.ClockShift.{ClockShift}
 
--- the first local second of the gap or fold; `shift_to` is the one after its last
+-- the first local second of the gap or fold; `shift_to` is the local second after the last one of the gap or fold
 abbrev pub shift_from : TimeZone → ℤ → ClockChange → ℤ
 shift_from tz change Skipped = shown_unchanged tz change
 shift_from tz change Repeated = local_shown_at tz change

@@ -31,15 +31,15 @@ IsMatch sets local = IsLocalSecond local × (matches sets (unsigned_abs local) �
 abbrev pub shown_unchanged : TimeZone → ℤ → ℤ
 shown_unchanged tz change = local_shown_at tz (change -ℤ pos 1) +ℤ pos 1
 
--- The change skips `local`, which lies in the gap: at or after the time that the clock would have shown, and before the
--- time that it shows. So `local` has no place.
+-- The change skips `local`, which lies in the gap: at or after the time that the clock would show without the change,
+-- and before the time that the clock shows. `local` has no place.
 pub record IsSkippedBy (tz : TimeZone) (change local : ℤ) : Type 0 where
   pub from : shown_unchanged tz change ≤ℤ local
   pub to : local <ℤ local_shown_at tz change
   pub no_place : place_of tz local ≡ None
 
--- The change repeats `local`, which lies in the fold. The clock shows it first at the instant `first`, before the
--- change, and again after the change, as many seconds after it as `local` is after the start of the fold.
+-- The change repeats `local`, which lies in the fold. The clock shows `local` first at the instant `first`, before the
+-- change, and then again, as many seconds after the change as `local` is after the start of the fold.
 pub record IsRepeatedBy (tz : TimeZone) (change local : ℤ) : Type 0 where
   pub from : local_shown_at tz change ≤ℤ local
   pub to : local <ℤ shown_unchanged tz change
@@ -81,7 +81,7 @@ pub record AreEnough (limit : ℕ) (notes : List ClockNote) (local : ℤ) : Type
   pub many : limit ≤ length notes
   pub none_later : All (λ note. note.local ≤ℤ local) notes
 
--- the note is among the notes, or there are enough others, none of them about a later local time
+-- the note is among the notes, or there are at least `limit` notes, none of them about a later local time
 abbrev pub IsCovered : ℕ → List ClockNote → ClockNote → Type 0
 IsCovered limit notes note = Contains notes note ⊎ AreEnough limit notes note.local
 
@@ -101,9 +101,9 @@ pub record AreNotesOf (at : Setting) (now : ℤ) (lines : List (TimerLine Fields
 abbrev pub by_local : ClockNote → ClockNote → Ordering
 by_local x y = ordering_then (int_cmp x.local y.local) (nat_cmp x.zone y.zone)
 
--- The `limit` in the contract of `clock_notes`. If there are more notes than are returned, only notes that aren't
--- earlier than the 16 others may be missing. Otherwise the limit is 17, which 16 notes never reach, so none may be
--- missing.
+-- The `limit` in the contract of `clock_notes`. If there are more notes than the 16 that are returned, the limit is 16:
+-- only notes that aren't earlier than these 16 may be missing. Otherwise, the limit is 17, which 16 notes never reach,
+-- so no note may be missing.
 abbrev pub limit_if : Bool → ℕ
 limit_if true = max_notes
 limit_if false = max_notes + 1

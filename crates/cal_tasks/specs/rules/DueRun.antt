@@ -11,8 +11,8 @@ use Rattle.cal_tasks.specs.rules.LastElapse.{IsLastElapse, IsLastOf, timed_excep
 abbrev pub IsExcepted : Clocked → LoadedTimer → ℤ → Type 0
 IsExcepted at timer secs = IsElapse (timed_exceptions at timer) secs
 
--- The run that the timer starts now is due if there is a last elapse of its expressions, whether an exception elapses
--- then or not, and no exception elapses at the same instant.
+-- Consider the last elapse of the timer's expressions up to the present, without regard to exceptions. The run that the
+-- timer starts now is due if there is such an elapse, and no exception elapses at the same instant.
 abbrev pub IsDueRun : Clocked → LoadedTimer → DueRun → Type 0
 IsDueRun at timer (Due instant) = IsLastElapse at timer [] instant.secs × (IsExcepted at timer instant.secs → ⊥)
 IsDueRun at timer (Excepted instant) = IsLastElapse at timer [] instant.secs × IsExcepted at timer instant.secs

@@ -46,9 +46,9 @@ idle_as kind test lines = map (idle_line kind) (filter test lines)
 abbrev pub suppresses_nothing : Setting → ℤ → List ℤ → TimerLine Fields → Bool
 suppresses_nothing at base numbers line = not (has_any at base numbers line)
 
--- the lines that are reported as having no effect: first the expressions that never elapse after `base`, then those for
--- which systemd 252 fails at a midnight that clocks skip, and then the exceptions that suppress none of the
--- `next_elapses` of the expressions
+-- the lines that have no effect, or for which systemd 252 fails: first the expressions that never elapse after `base`,
+-- then those for which systemd 252 fails at a midnight that clocks skip, and then the exceptions that suppress none of
+-- the `next_elapses` of the expressions
 abbrev pub idle_lines : Setting → ℤ → Timer Fields → List IdleLine
 idle_lines at base lists =
     (idle_as NeverElapses (never_elapses at base) lists.expressions

@@ -1,5 +1,5 @@
--- The last elapse of a timer up to the present: systemd.timer(5), OnCalendar=. Which exceptions count is given: `show`
--- takes those of the timer, and `due` none.
+-- The last elapse of a timer up to the present: systemd.timer(5), OnCalendar=. The exceptions are a parameter: `show`
+-- passes those of the timer, and `due` passes none.
 use Rattle.std.specs.Prelude.{ℤ, ◌≤ℤ◌, List, Option, None, Some, map}
 use Rattle.cal_elapse.specs.rules.Elapses.{IsElapseExcept, Timed}
 use Rattle.cal_load.specs.declared.loaded.LoadedTimer.{LoadedTimer}
@@ -11,7 +11,7 @@ use Rattle.cal_zone.specs.rules.Instant.{IsInstant}
 use Rattle.cal_tasks.specs.declared.clocked.Clocked.{Clocked}
 use Rattle.cal_tasks.specs.rules.LoadedElapses.{setting_for}
 
--- what these expressions mean in their zones, as far as the zones were loaded for the timer
+-- what these expressions mean in their zones; the zones are those that were loaded for the timer
 abbrev pub timed_lines : Clocked → LoadedTimer → List (TimerLine Fields) → List Timed
 timed_lines at timer = map (timed_entry (setting_for at timer))
 
@@ -23,17 +23,18 @@ abbrev pub timed_exceptions : Clocked → LoadedTimer → List Timed
 timed_exceptions at timer = timed_lines at timer (exceptions_in timer.calendar)
 
 -- an instant, at or before the present, at which one of the timer's expressions elapses and none of these exceptions
+-- does
 pub record IsPastElapse (at : Clocked) (timer : LoadedTimer) (exceptions : List Timed) (secs : ℤ) : Type 0 where
   pub instant : IsInstant secs
   pub past : secs ≤ℤ at.now.secs
   pub is_elapse : IsElapseExcept (timed_expressions at timer) exceptions secs
 
--- the greatest of these instants
+-- the greatest of the instants for which `IsPastElapse` holds
 pub record IsLastElapse (at : Clocked) (timer : LoadedTimer) (exceptions : List Timed) (secs : ℤ) : Type 0 where
   pub elapsed : IsPastElapse at timer exceptions secs
   pub last : (other : ℤ) → IsPastElapse at timer exceptions other → other ≤ℤ secs
 
--- the greatest of these instants, or `None` if there are none
+-- the greatest of the instants for which `IsPastElapse` holds, or `None` if it holds for none
 abbrev pub IsLastOf : Clocked → LoadedTimer → List Timed → Option ℤ → Type 0
 IsLastOf at timer exceptions None = (secs : ℤ) → IsPastElapse at timer exceptions secs → ⊥
 IsLastOf at timer exceptions (Some last) = IsLastElapse at timer exceptions last

@@ -13,7 +13,7 @@ use Rattle.cal_timer.specs.rules.TimerEntries.{TimerLine}
 use Rattle.cal_zone.specs.rules.Place.{place_of}
 use Rattle.cal_zone.specs.rules.Setting.{Setting}
 
--- the day after that of the instant, by UTC, counted from 1970-01-01
+-- the UTC day after the day of the instant, as a number of days since 1970-01-01
 abbrev pub next_day : ℤ → ℕ
 next_day now = unsigned_abs now / seconds_per_day + 1
 

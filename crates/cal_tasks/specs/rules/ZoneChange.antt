@@ -14,7 +14,7 @@ pub record IsZoneChange (tz : TimeZone) (change : ℤ) : Type 0 where
   pub instant : IsInstant change
   pub differs : utc_offset tz change ≢ utc_offset tz (change -ℤ pos 1)
 
--- the instant this many days later, each of 86,400 seconds
+-- the second of Unix time that is `days` days of 86,400 seconds after `second`
 abbrev pub days_after : ℤ → ℕ → ℤ
 days_after second days = second +ℤ pos (days * seconds_per_day)
 

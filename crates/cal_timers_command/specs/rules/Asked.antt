@@ -98,7 +98,7 @@ targets_in rows =
     one_text (first_of (codes "first") rows) ++ one_text (first_of (codes "second") rows)
     ++ unwrap_or (all_of (codes "target") rows) []
 
--- continues with the value, unless there is an error
+-- the result of `next` for this value, or this error
 abbrev pub then_with : {A B : Type 0} → Result A Fault → (A → Result B Fault) → Result B Fault
 then_with (Ok value) next = next value
 then_with (Err fault) next = Err fault
@@ -139,7 +139,8 @@ question_for verb rows =
 unfoldable pub faults_in : List Text → Kinds
 faults_in arguments = fault_of command_app (verb_first arguments)
 
--- what is asked, or the first error, if `found` has the name of the verb and the values that `clap` finds
+-- what is asked, or the first error, given what `clap` finds: the name of the verb, and the values of the options and
+-- targets
 unfoldable pub question_found : Option (Text × List Row) → Result Question Fault
 question_found found =
     option_map_or (λ (pair : Text × List Row). option_map_or (λ verb. question_for verb pair.1) (verb_named pair.0) (Err (usage no_question)))
@@ -153,7 +154,7 @@ answer_in arguments = question_found (subcommand_of command_app (verb_first argu
 abbrev pub HasRead : List Text → Result Question Fault → Type 0
 HasRead arguments answer = (faults_in arguments ≡ []) × (answer_in arguments ≡ answer)
 
--- the error is a request for help or the version
+-- whether an error of this kind is a request for help or the version
 abbrev pub is_of_help : ErrorKind → Bool
 is_of_help DisplayHelp = true
 is_of_help DisplayVersion = true
@@ -163,15 +164,15 @@ is_of_help _ = false
 abbrev pub IsQuestionOf : List Text → Question → Type 0
 IsQuestionOf arguments question = HasRead arguments (Ok question)
 
--- `fault` may be reported if `clap` reports one of the errors `kinds`: its text is that of `clap`, and all that is
--- known about it is that it isn't empty
+-- `fault` may be reported if `clap` reports one of the errors `kinds`. Unless `fault` is a failed allocation, its text
+-- is written by `clap`: the text isn't empty, and nothing else is known about it.
 abbrev pub IsRefusalOf : Kinds → Fault → Type 0
 IsRefusalOf kinds (usage text) = (list_any (λ kind. not (is_of_help kind)) kinds ≡ true) × (0 < length text)
 IsRefusalOf kinds (help text) = (list_any is_of_help kinds ≡ true) × (0 < length text)
 IsRefusalOf kinds no_memory = ⊤
 
--- The arguments may be answered with this error: usage or help if `clap` rejects them for such a reason, and otherwise
--- the error of the first invalid value. A failed allocation may be the answer to any arguments.
+-- The arguments may result in this error: in a usage error or a help text if `clap` reports such an error, and
+-- otherwise in the error of the first invalid value. Any arguments may result in a failed allocation.
 abbrev pub IsFaultOf : List Text → Fault → Type 0
 IsFaultOf arguments (usage text) =
     IsRefusalOf (faults_in arguments) (usage text) ⊎ (HasRead arguments (Err (usage text)) × (0 < length text))

@@ -28,7 +28,7 @@ abbrev pub text_in : Text → Option Text
 text_in [] = None
 text_in (byte ∷ bytes) = Some (byte ∷ bytes)
 
--- the option without a value is given: `clap` then finds the value `true` for it
+-- whether the option `--name`, which has no value, is given: if it is, `clap` finds the value `true` for it
 abbrev pub is_set : Text → List Row → Bool
 is_set name rows = option_map_or (λ text. bytes_eq text (codes "true")) (first_of name rows) false
 

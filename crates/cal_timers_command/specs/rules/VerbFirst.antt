@@ -25,13 +25,14 @@ needs_value = is_among value_options
 abbrev pub asks_help : Text → Bool
 asks_help = is_among help_options
 
--- an option, other than a request for help or the version: it begins with `-` and is longer than that; `--` isn't an
--- option, since only targets follow it
+-- an option, other than a request for help or the version: it begins with `-` and isn't just `-`; `--` isn't an option,
+-- since only targets follow it
 abbrev pub is_option : Text → Bool
 is_option argument =
     (get_or argument 0 0 == 45 && nat_lt 1 (length argument)) && not (is_among (codes "--" ∷ help_options) argument)
 
--- `clap` takes the argument for a verb, among them `help`, which `clap` adds, or for a request for help or the version
+-- the argument can stand at the front: it is a verb, or `help`, which `clap` adds to the verbs, or a request for help
+-- or the version
 abbrev pub leads : Text → Bool
 leads argument = is_among (codes "help" ∷ help_options) argument || is_some (verb_named argument)
 
@@ -55,7 +56,7 @@ first_failing test (suc count) =
 abbrev pub first_word : List Text → Option ℕ
 first_word arguments = first_failing (is_passed arguments) (length arguments)
 
--- the verb that the arguments begin with, options aside, is `due`
+-- the first argument that is neither an option nor the value of an option is `due`
 unfoldable pub asks_due : List Text → Bool
 asks_due arguments =
     option_map_or (λ index. bytes_eq (get_or arguments index []) (codes "due")) (first_word arguments) false
@@ -67,13 +68,14 @@ moved_first arguments index =
 abbrev pub list_first : List Text → List Text
 list_first arguments = codes "list" ∷ arguments
 
--- the arguments with the one at this index moved to the front, if it leads; otherwise `list` and all arguments
+-- the arguments with the one at this index moved to the front if it can stand there (`leads`), and otherwise with
+-- `list` put in front
 abbrev pub led_from : List Text → ℕ → List Text
 led_from arguments index =
     if leads (get_or arguments index []) then moved_first arguments index else list_first arguments
 
--- The arguments with the verb at the front. The verb is the first argument that is neither an option nor the value of
--- an option, and all other arguments keep their order. If that argument isn't a verb or a request for help, as `--` and
--- targets are not, or if there is no such argument, the verb is `list`.
+-- The arguments as `clap` reads them. The first argument that is neither an option nor the value of an option is moved
+-- to the front if it is a verb or a request for help or the version. Otherwise (it is a target or `--`, or there is no
+-- such argument), `list` is put in front. All other arguments keep their order.
 unfoldable pub verb_first : List Text → List Text
 verb_first arguments = option_map_or (led_from arguments) (first_word arguments) (list_first arguments)

@@ -11,7 +11,7 @@ use Rattle.cal_timers_report.specs.rules.ReportView.{ElapseView}
 abbrev pub instant_width : Zone → ℤ → ℕ
 instant_width zone secs = length (instant_text zone secs)
 
--- the instant, spaces to fill up its column, two more, and the name of the timer
+-- the instant, spaces to fill up its column, two more spaces, and the name of the timer
 abbrev pub between_line : Zone → ℕ → ElapseView → List ℕ
 between_line zone width elapse =
     instant_text zone elapse.secs

@@ -21,7 +21,7 @@ abbrev pub widest : {X : Type 0} → (X → ℕ) → List X → ℕ
 widest width [] = 0
 widest width (x ∷ xs) = max (width x) (widest width xs)
 
--- a text as it is cut to a width: of a text that is too long, the first `width - 1` characters are left, and then `…`
+-- the text, cut to this width: if it is longer, its first `width - 1` characters and `…`
 abbrev pub cut : ℕ → List ℕ → List ℕ
 cut width text =
     if nat_le (text_width text) width then text

@@ -71,7 +71,7 @@ only_of zone side = map (only_json zone side.unit) (option_to_list side.only)
 abbrev pub settings_of : SideView → List Json
 settings_of side = map (setting_json side.unit) side.settings
 
--- Two timers are the same if neither elapses at an instant at which the other doesn't.
+-- The member `same` is true if neither timer elapses at an instant at which the other doesn't.
 abbrev pub comparison_members : Zone → ComparisonView → List (List ℕ × Json)
 comparison_members zone found = (
     (codes "same", boolean (is_none found.one.only && is_none found.other.only))

@@ -10,7 +10,7 @@ abbrev pub unit_prefix : Option (List ℕ) → List ℕ
 unit_prefix None = []
 unit_prefix (Some name) = printable_text name ++ codes ": "
 
--- why a run with this elapse isn't due
+-- why a run isn't due, given the last elapse of the timer's expressions
 abbrev pub reason_text : Zone → Option ℤ → List ℕ
 reason_text zone None = codes "no elapse so far"
 reason_text zone (Some secs) = instant_text zone secs ++ codes " is an exception"

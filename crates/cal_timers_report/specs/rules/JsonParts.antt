@@ -16,7 +16,7 @@ abbrev pub or_null : {X : Type 0} → (X → Json) → Option X → Json
 or_null json None = null
 or_null json (Some value) = json value
 
--- an array of JSON values
+-- the JSON array with these values, in this order
 abbrev pub array_of : List Json → Json
 array_of values = array (items_of values)
 

@@ -71,7 +71,8 @@ headings_of rows = record {
 abbrev pub gap : ℕ
 gap = 2
 
--- the least room for notes: the width of `fails to load`, the longest note that isn't a setting
+-- the least room for notes: the width of `fails to load`, the longest note that is neither a setting nor
+-- `exceptions ignored by systemd`
 abbrev pub least_notes_room : ℕ
 least_notes_room = 13
 
@@ -79,7 +80,7 @@ least_notes_room = 13
 abbrev pub room_after : ℕ → ℕ → ℕ → ℕ
 room_after terminal next left = (((terminal - next) - gap) - left) - gap
 
--- the width that the unit of a row needs in its column: none if the unit is wider than `room`
+-- the width that the unit of a row needs in its column, or 0 if the unit is wider than `room`
 abbrev pub width_in : ℕ → List ℕ → ℕ
 width_in room unit = if nat_le (text_width unit) room then text_width unit else 0
 
@@ -88,7 +89,7 @@ width_in room unit = if nat_le (text_width unit) room then text_width unit else 
 abbrev pub unit_width : ℕ → List RowView → ℕ
 unit_width room rows = max (text_width (codes "UNIT")) (widest (λ row. width_in ((room - gap) - least_notes_room) row.unit) rows)
 
--- a column is as wide as the widest of its heading and its cells, but for the column of units
+-- a column is as wide as the widest of its heading and its cells, except for the column of units (`unit_width`)
 abbrev pub widths_of : ℕ → List RowView → Widths
 widths_of terminal rows =
     let next = max (text_width (codes "NEXT")) (widest (λ row. text_width row.next) rows) in
@@ -97,12 +98,12 @@ widths_of terminal rows =
 
 -- ## Lines
 
--- the room for the notes after this unit: what is left of the width of the terminal
+-- the room for the notes after this unit: what is left of the width of the terminal, but at least `least_notes_room`
 abbrev pub notes_room : Widths → List ℕ → ℕ
 notes_room widths unit =
     max least_notes_room ((room_after widths.terminal widths.next widths.left - max widths.unit (text_width unit)) - gap)
 
--- the unit, and after it the notes, if there are any, which are cut to the room for them
+-- the unit and, if it has notes, its notes after it, cut to the room for notes
 abbrev pub unit_and_notes : Widths → List ℕ → List ℕ → List ℕ
 unit_and_notes widths unit notes =
     if length notes == 0 then unit

@@ -22,7 +22,8 @@ use Rattle.cal_timers_report.specs.rules.TimeLeft.{time_ago, two_units}
 abbrev pub label_width : ℕ
 label_width = 13
 
--- a label, or only its column if there is none, and then the rest of the line
+-- a label that is filled up to the width of its column, and then the rest of the line; the column is blank if the label
+-- is empty
 abbrev pub labeled : List ℕ → List ℕ → List ℕ
 labeled label line = padded label_width label ++ line
 
@@ -58,7 +59,7 @@ last_line zone now expressions last = if length expressions == 0 then [] else la
 abbrev pub in_time : ℤ → ℤ → List ℕ
 in_time now secs = if int_le secs now then codes "now" else codes "in " ++ two_units now secs
 
--- the instant, spaces to fill up its column, two more, and how long it is until then
+-- the instant, spaces to fill up its column, two more spaces, and how long it is until the instant
 abbrev pub elapse_line : Zone → ℤ → ℕ → ℤ → List ℕ
 elapse_line zone now width secs =
     instant_text zone secs ++ (blanks (width - instant_width zone secs) ++ (codes "  " ++ (in_time now secs ++ codes "\n")))
@@ -95,7 +96,7 @@ zone_suffix (Some name) = codes " " ++ printable_text name
 abbrev pub civil_time : Civil → List ℕ
 civil_time civil = time_text civil.hour civil.minute civil.second
 
--- whether a local time is skipped or occurs twice, as it stands before the date
+-- the words before the date, which say whether a local time is skipped or occurs twice
 unfoldable pub change_text : Bool → List ℕ
 change_text is_skipped = if is_skipped then codes " is skipped on " else codes " occurs twice on "
 
@@ -159,7 +160,7 @@ timer_text style zone now timer =
 abbrev pub masked_line : List ℕ → List ℕ
 masked_line name = printable_text name ++ codes ": masked\n"
 
--- the timers, with an empty line between two of them, and then a line for each masked unit
+-- the timers, with an empty line between consecutive ones, and then a line for each masked unit
 abbrev pub show_lines : Style → Zone → ℤ → List TimerView → List (List ℕ) → List ℕ
 show_lines style zone now timers masked =
     join_by (timer_text style zone now) (codes "\n") timers ++ flat_map masked_line masked

@@ -18,16 +18,16 @@ use std::alloc::{AllocError, Global};
 
 /// Returns the document of `show` and `next`: an array with an object for each timer, in the order given.
 ///
-/// The members of an object are `unit`, `files`, `expressions`, `exceptions`, `last`, `elapses`, `notes`, `warnings` and
-/// `clock`. All but `unit` and `last` are arrays, and those of `files`, `notes` and `warnings` have strings. The others
-/// have objects:
+/// The members of an object are `unit`, `files`, `expressions`, `exceptions`, `last`, `elapses`, `notes`, `warnings`
+/// and `clock`. `files`, `notes` and `warnings` are arrays of strings. `expressions`, `exceptions`, `elapses` and
+/// `clock` are arrays of objects, and `last` is one object. The members of these objects are:
 ///
-/// - For an expression or an exception: `text` (as it is written), `normal` (its normal form), `file` and `line`. The
-///   last two are `null` if the expression isn't from a file.
-/// - For the last elapse: `local` and `unix`, as for an elapse, and `ago` (the time span from the last elapse to `now`, or
-///   `0` if it isn't earlier than `now`). If there is no last elapse, `last` is `null`.
-/// - For an elapse: `local` (the elapse as clocks in `zone` show it), `unix` (the elapse in seconds of Unix time) and
-///   `left` (the time span from `now` to the elapse, or `0` if it isn't later than `now`).
+/// - For an expression or an exception: `text` (the expression as it is written), `normal` (its normal form), `file`
+///   and `line`. The last two are `null` if the expression isn't from a file.
+/// - For the last elapse: `local` and `unix`, as for other elapses, and `ago` (the time span from the last elapse to
+///   `now`, or `0` if the last elapse isn't earlier than `now`). If there is no last elapse, `last` is `null`.
+/// - For a next elapse: `local` (the elapse as clocks in `zone` show it), `unix` (the elapse in seconds of Unix time)
+///   and `left` (the time span from `now` to the elapse, or `0` if the elapse isn't later than `now`).
 /// - For a local time in `clock`: `local`, `change` (`skipped` or `repeated`) and `zone`, which is `null` for the local
 ///   zone.
 ///
@@ -168,7 +168,7 @@ fn put_last_elapse(
         },
     )?;
     put_member(out, "unix", &UnixTime(then))?;
-    // How long it is from the last elapse until the present.
+    // The time span from the last elapse to the present: here the later of the two instants is the present.
     let ago = TimeLeft {
         now: then,
         then: now,

@@ -24,12 +24,11 @@ pub(crate) struct InZone<'a> {
     pub(crate) instant: Instant,
 }
 
-/// An instant. It is written as a number: the seconds of Unix time.
+/// An instant. It is written as its number of seconds of Unix time.
 #[derive(Clone, Copy)]
 pub(crate) struct UnixTime(pub(crate) Instant);
 
-/// How long it is from `now` until `then`. It is written as a time span, as in `3d 23h 12min`, or as `0` if `then`
-/// isn't later than `now`.
+/// The time span from `now` to `then`. It is written as in `3d 23h 12min`, or as `0` if `then` isn't later than `now`.
 #[derive(Clone, Copy)]
 pub(crate) struct TimeLeft {
     pub(crate) now: Instant,

@@ -27,11 +27,11 @@ use Rattle.cal_zone_files.specs.declared.fault.ZonesFault.TheVariants.{Unclear, 
 
 -- ## Lines
 
--- what is at fault, and the message about it
+-- a line that names what is at fault, and then has the message about it
 unfoldable pub subject_line : List ℕ → List ℕ → List ℕ
 subject_line subject message = printable_text subject ++ (codes ": " ++ message)
 
--- the path of a file and the number of a line in it, before the message about this line
+-- the start of an error line about a line of a file: the path of the file and the number of the line
 unfoldable pub position_text : List ℕ → ℕ → List ℕ
 position_text path line = printable_text path ++ (codes ":" ++ (decimal line ++ codes ": "))
 
@@ -56,8 +56,8 @@ place_at files first_lines number (suc index) =
 unfoldable pub place_of : List UnitText → List ℕ → ℕ → Option (List ℕ × ℕ)
 place_of files first_lines number = place_at files first_lines number (begun first_lines number)
 
--- the path of the file that has the line with this continued number, and the number that the line has in this file,
--- before the message about this line; if no file has the line, the name of the timer and the continued number
+-- the start of an error line about the line with this continued number: the path of the file that has the line, and the
+-- line's number in this file; if no file has the line, the name of the timer and the continued number
 unfoldable pub place_text : List ℕ → TimerFiles → ℕ → List ℕ
 place_text timer files number =
     let place = unwrap_or (place_of files.texts.items files.first_lines.items number) (timer, number) in
@@ -65,7 +65,7 @@ place_text timer files number =
 
 -- ## Timers that can't be loaded
 
--- a target with a slash is treated as a path, and any other target as the name of a unit
+-- the message about a target that isn't found: a target with a slash is a path, and any other the name of a unit
 unfoldable pub not_found_words : List ℕ → List ℕ
 not_found_words target = if list_any is_slash target then codes "no such file or directory" else codes "no such timer"
 

@@ -5,7 +5,8 @@ use Rattle.cal_lint.specs.declared.open_steps.OpenStepFlaw.TheVariants.{LosesEla
 use Rattle.cal_spec.specs.declared.field.Field.{Field}
 use Rattle.cal_spec.specs.declared.field.Field.TheVariants.{Year, Month, Day, Hour, Minute, Second}
 
--- the words about elapses that are lost because a step of this field has no end; no step of a year or a month loses any
+-- the words about elapses that are lost because a step of this field has no end; a step of a year or a month loses no
+-- elapses, so the words for these two fields are never printed
 abbrev pub loss_words : Field → List ℕ
 loss_words Year = codes "systemd 252 loses elapses: give the step an end"
 loss_words Month = codes "systemd 252 loses elapses: give the step an end"

@@ -22,7 +22,7 @@ use Rattle.cal_timers_text.specs.rules.Messages.{finding_message}
 
 -- ## Problems without a column
 
--- how serious a problem is: an error is emphasized
+-- the word for the kind of a problem, a colon and a space; the word and colon of an error are emphasized
 unfoldable pub kind_text : Style → ProblemKind → List ℕ
 kind_text style kinds.Error = begin_text style emphases.Error ++ (codes "error:" ++ (end_text style ++ codes " "))
 kind_text style kinds.Warning = codes "warning: "
@@ -32,7 +32,7 @@ abbrev pub after_file : Option ℕ → List ℕ
 after_file None = codes ": "
 after_file (Some line) = codes ":" ++ (decimal line ++ codes ": ")
 
--- the line about a problem without a column; `file` is the path of a file, or the name of a timer
+-- the line about a problem without a column; `file` is a path, or the name of a timer
 unfoldable pub problem_line : Style → List ℕ → Option ℕ → ProblemKind → List ℕ → List ℕ
 problem_line style file line kind message =
     printable_text file ++ (after_file line ++ (kind_text style kind ++ (message ++ codes "\n")))
@@ -45,7 +45,7 @@ counted count noun =
     if count == 0 then []
     else (if count == 1 then codes "1 " ++ noun else decimal count ++ (codes " " ++ (noun ++ codes "s")))
 
--- what separates the two numbers, unless one of them is 0
+-- what separates the numbers of errors and warnings; nothing if one of them is 0
 abbrev pub counts_separator : ℕ → ℕ → List ℕ
 counts_separator errors warnings = if nat_lt 0 errors && nat_lt 0 warnings then codes ", " else []
 
@@ -80,7 +80,7 @@ is_in_value BadUnitName = true
 is_in_value (IgnoredValue kind) = true
 is_in_value (OpenStep flaw) = true
 
--- the text before the first `=`, or all of it, without blanks at its end
+-- the text before the first `=`, or all of the text if it has no `=`, without blanks at its end
 unfoldable pub key_of : List ℕ → List ℕ
 key_of setting = trim_end_matches is_blank (before_first is_equals setting)
 
@@ -108,7 +108,7 @@ word_at_fault line finding =
     if has_column line finding
     then Some (take (finding.column - 1) line, word_from finding.problem (drop (finding.column - 1) line)) else None
 
--- the number of characters that are printed for a text, or the greatest number of 64 bits if there are more
+-- the number of characters that are printed for a text, limited to the greatest number of 64 bits
 abbrev pub bounded_width : List ℕ → ℕ
 bounded_width text = min (shown_width text) (2 ^ 64 - 1)
 

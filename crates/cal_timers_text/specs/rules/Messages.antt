@@ -67,7 +67,7 @@ doubt_words HourList = codes "this is an hour and a list of minutes, not a list 
 doubt_words MonthDay = codes "this is a month and a day, not a range of weekdays"
 doubt_words Abbreviation = codes "this is an abbreviation, which systemd may take for winter time or summer time only"
 
--- what is wrong with a value that systemd doesn't take for a setting of this kind
+-- what is wrong with a value that systemd doesn't accept for a setting of this kind
 unfoldable pub value_words : SettingKind → List ℕ
 value_words Monotonic = codes "not a time span"
 value_words Change = codes "not a boolean"
@@ -98,7 +98,7 @@ start_of (TooMany line) = []
 start_of NothingToDo = []
 start_of NoMemory = []
 
--- why an expression is invalid: the mistake that it resembles, or else the error
+-- why an expression is invalid: the mistake that was recognized in it, or else the error
 abbrev pub reason_of : TimerFault → Option Mistake → List ℕ
 reason_of fault None = message_of fault
 reason_of fault (Some mistake) = mistake_words mistake

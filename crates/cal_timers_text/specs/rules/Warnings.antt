@@ -14,7 +14,7 @@ use Rattle.cal_timer.specs.rules.TimerEntries.{TimerLine}
 use Rattle.cal_timers_text.specs.rules.FlawWords.{flaw_words}
 use Rattle.cal_zone.specs.rules.Setting.{Setting}
 
--- the warning about the expression `text`, whose zone has a `name` that looks like an abbreviation
+-- the warning about the expression `text`, whose zone has the name `name`, which looks like an abbreviation
 abbrev pub abbreviation_warning : List ℕ → List ℕ → List ℕ
 abbreviation_warning text name =
     ((text ++ codes ": ") ++ name)

@@ -19,7 +19,7 @@ use Rattle.cal_unit_index.specs.rules.UnitName.{file_stem, listed_stem, may_lead
 
 -- ## The names in a folder
 
--- the sorted texts, with these texts added to them, each once
+-- `sorted` with these texts inserted in order, each text only once
 abbrev pub with_texts : List (List ℕ) → List (List ℕ) → List (List ℕ)
 with_texts sorted texts = fold (insert_key (slice_cmp nat_cmp)) sorted texts
 
@@ -64,12 +64,14 @@ last_part path = unwrap_or (slice_get (parts_of path) (length (parts_of path) - 
 abbrev pub if_may_lead : List ℕ → List ℕ → Option (List ℕ)
 if_may_lead stem other = if may_lead stem other then Some other else None
 
--- The stem of the unit of which `stem` is an alias, if a link with this stem leads to `place`, which is in the search
--- path: the unit with the name at the end of this path. None if the link is rejected.
+-- The stem of the unit of which `stem` is an alias, if a link with this stem leads to the path `place`, below a folder
+-- of the search path: it is the stem in the last part of `place`. None if this part isn't the name of a timer's file,
+-- or if `stem` can't be an alias of that timer.
 abbrev pub alias_of : List ℕ → List ℕ → Option (List ℕ)
 alias_of stem place = option_and_then (if_may_lead stem) (file_stem (last_part place))
 
--- where a link with this stem leads; `file` is the link's own path
+-- the destination of a stem whose file, at the path `file`, is a link that leads to the path `place`; `path` is the
+-- search path
 abbrev pub destination_of_link : List (List ℕ) → List ℕ → List ℕ → List ℕ → Option Destination
 destination_of_link path stem file place =
     if list_any (is_below place) path then option_map AliasOf (alias_of stem place) else Some (FileAt file)
@@ -83,7 +85,8 @@ target_path folder target = if starts_with nat_eq target (codes "/") then target
 abbrev pub unit_path : List ℕ → List ℕ → List ℕ
 unit_path folder stem = folder ++ codes "/" ++ stem ++ codes ".timer"
 
--- where a stem leads, given what is at `file`, its path in this folder: nowhere if that isn't a file of a unit
+-- where a stem leads, given what is at `file`, the stem's path in this folder: nowhere (`None`) if nothing, a device or
+-- a folder is there
 abbrev pub destination_of_entry : Machine → List (List ℕ) → List ℕ → List ℕ → List ℕ → Entry → Result (Option Destination) Unreadable
 destination_of_entry machine path folder stem file Missing = Ok None
 destination_of_entry machine path folder stem file Empty = Ok (Some (FileAt file))
@@ -97,7 +100,7 @@ abbrev pub if_read : {X Y : Type 0} → (X → Result Y Unreadable) → Result X
 if_read what (Ok found) = what found
 if_read what (Err why) = Err why
 
--- where a stem leads according to this folder: what is at the stem's path in it decides
+-- where a stem leads according to this folder, given what the machine has at the stem's path in the folder
 abbrev pub destination_at_path : Machine → List (List ℕ) → List ℕ → List ℕ → Result (Option Destination) Unreadable
 destination_at_path machine path folder stem =
     if_read (destination_of_entry machine path folder stem (unit_path folder stem)) (entry_at machine (unit_path folder stem))
@@ -106,8 +109,8 @@ abbrev pub unless_unreadable : Result (Option Destination) Unreadable → Option
 unless_unreadable (Ok destination) = destination
 unless_unreadable (Err why) = None
 
--- where a stem leads according to this folder, if it has these stems; a stem that isn't among them leads nowhere, nor
--- does one whose path can't be read
+-- where a stem leads according to this folder: nowhere if the stem isn't among `stems`, which are those of the folder,
+-- or if what is at the stem's path can't be read
 abbrev pub destination_by : Machine → List (List ℕ) → List ℕ → List (List ℕ) → List ℕ → Option Destination
 destination_by machine path folder stems stem =
     if is_among stems stem then unless_unreadable (destination_at_path machine path folder stem) else None

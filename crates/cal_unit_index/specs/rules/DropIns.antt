@@ -37,8 +37,8 @@ listed_names (Err why) = []
 abbrev pub candidates_in : Machine → List ℕ → List FolderFile
 candidates_in machine folder = candidates folder (listed_names (names_at machine folder))
 
--- Enters the path of this file under the file's name; if the entries already have a path under this name, it is
--- replaced. An entry is a pair of a name and a path.
+-- Enters the path of this file under the file's name, in place of the path that was entered under this name before, if
+-- there is one. An entry is a pair of a name and a path.
 abbrev pub enter : List (List ℕ × List ℕ) → FolderFile → List (List ℕ × List ℕ)
 enter entries file = insert_entry (slice_cmp nat_cmp) entries file.name file.path
 

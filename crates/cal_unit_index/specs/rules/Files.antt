@@ -20,8 +20,8 @@ pub record UnitText : Type 0 where
 abbrev pub max_bytes : ℕ
 max_bytes = 1048576
 
--- what is at the path of a file of a unit: an empty file or a device, which mask a unit; something that can't be used; or
--- a text
+-- what is at the path of a unit's file: an empty file or a device, which masks the unit; something that can't be used;
+-- or a text
 pub data FileRead : Type 0 where
   Mask : FileRead
   Unusable : (reason : Reason) → FileRead
@@ -44,7 +44,7 @@ drop_in_bytes Mask = None
 drop_in_bytes (Unusable reason) = None
 drop_in_bytes (Text bytes) = Some bytes
 
--- why a drop-in is lost; a folder or a link to nothing isn't lost, but skipped
+-- why a drop-in is lost, given why it can't be used; None if it is only skipped, as a folder and a link to nothing are
 abbrev pub lost_for : Reason → Option Reason
 lost_for (reasons.Unreadable why) = Some (reasons.Unreadable why)
 lost_for reasons.IsFolder = None

@@ -39,9 +39,10 @@ abbrev pub prefix_instances : List ℕ → Option (List ℕ) → List (List ℕ)
 prefix_instances stem None = []
 prefix_instances stem (Some template) = flat_map (with_prefix stem) (prefixes_of stem)
 
--- The stems whose drop-in folders apply to the unit with this stem. For an instance, each prefix that ends with a dash
--- stands first as a template and as an instance, the shortest first. Then come these prefixes alone, the stem of the
--- template, and the stem itself. A unit that isn't an instance has only the prefixes alone and its stem.
+-- The stems whose drop-in folders apply to the unit with this stem. For an instance, first come, for each prefix that
+-- ends with a dash, a template and an instance that begin with this prefix (`with_prefix`), the shortest first. Then
+-- come the prefixes alone, the stem of the template, and the stem itself. For any other unit, these are the prefixes
+-- alone and its stem.
 unfoldable pub folder_stems : List ℕ → List (List ℕ)
 folder_stems stem =
     prefix_instances stem (template_of stem) ++ (prefixes_of stem ++ (option_to_list (template_of stem) ++ stem ∷ []))
@@ -64,7 +65,7 @@ type_folder unit_type = drop 1 (suffix_of unit_type) ++ codes ".d"
 abbrev pub path_in : List ℕ → List ℕ → List ℕ
 path_in folder name = folder ++ codes "/" ++ name
 
--- systemd's managers run in the root folder and look up a relative target there
+-- where systemd looks for the target of a link: its managers run in the root folder, so a relative target starts there
 abbrev pub from_root : List ℕ → List ℕ
 from_root target = if starts_with nat_eq target (codes "/") then target else codes "/" ++ target
 
@@ -93,8 +94,8 @@ is_followed machine (Ok Folder) = true
 is_followed machine (Ok (Link target)) = can_be_folder (end_at machine (from_root target))
 is_followed machine (Err why) = true
 
--- whether the drop-in folder with this name is read in a folder of the search path. A drop-in folder that can't be read
--- counts, so that this is reported.
+-- Whether the drop-in folder with this name, in a folder of the search path, is one of those that systemd tries to
+-- read. A folder that can't be read is one of them, too, so that the error is reported.
 abbrev pub is_drop_in_folder : Machine → List ℕ → List ℕ → Bool
 is_drop_in_folder machine root name = is_among (listed machine root) name && is_followed machine (entry_at machine (path_in root name))
 
@@ -102,12 +103,12 @@ is_drop_in_folder machine root name = is_among (listed machine root) name && is_
 abbrev pub folder_below : Machine → List ℕ → List ℕ → List (List ℕ)
 folder_below machine root name = if is_drop_in_folder machine root name then path_in root name ∷ [] else []
 
--- the paths of the drop-in folders with these names in a folder of the search path
+-- the paths of those drop-in folders with these names, in a folder of the search path, that are read
 abbrev pub folders_below : Machine → List (List ℕ) → List ℕ → List (List ℕ)
 folders_below machine names root = flat_map (folder_below machine root) names
 
--- the drop-in folders that apply to a unit of this type with this stem: first all folders below the least important root, then all
--- folders below the next one, and so on
+-- the drop-in folders that apply to a unit of this type with this stem: first all folders below the least important
+-- root, then all folders below the next one, and so on
 abbrev pub stem_folders : Machine → List (List ℕ) → UnitType → List ℕ → List (List ℕ)
 stem_folders machine roots unit_type stem =
     flat_map (folders_below machine (map (folder_name unit_type) (folder_stems stem))) roots

@@ -1,5 +1,5 @@
--- What the index of a search path has: the names in its folders, where each name leads, all aliases, and what couldn't be
--- read. Search paths have the most important folder first.
+-- What the index of a search path has: the names in its folders, where each name leads, all aliases, and what couldn't
+-- be read. Search paths have the most important folder first.
 use Rattle.std.specs.Prelude.{◌≡◌, ℕ, Bool, not, ◌&&◌, List, [], ◌∷◌, ◌++◌, Option, None, Some, Result, Ok, Err, filter, is_some, map, option_map, String, string_bytes}
 use Rattle.std.specs.BTreeMap.{BTreeMap, get_by_text}
 use Rattle.std.specs.List.{filter_map, flat_map}
@@ -31,7 +31,8 @@ abbrev pub fault_if_unreadable : List ℕ → Result (Option Destination) Unread
 fault_if_unreadable path (Ok destination) = None
 fault_if_unreadable path (Err why) = Some (unreadable_fault path why)
 
--- the fault of a timer's file, or of a link whose target can't be followed
+-- the fault to report if it can't be determined where a stem leads, because the file at its path can't be read, or is a
+-- link that can't be followed
 abbrev pub fault_of_stem : Machine → List (List ℕ) → List ℕ → List ℕ → Option Fault
 fault_of_stem machine path folder stem =
     fault_if_unreadable (unit_path folder stem) (destination_at_path machine path folder stem)
@@ -44,12 +45,12 @@ abbrev pub faults_of_listing : List ℕ → Result Listing Unreadable → List F
 faults_of_listing folder (Ok listing) = []
 faults_of_listing folder (Err why) = unreadable_fault folder why ∷ []
 
--- what can't be read in a folder of the search path: the folder itself, or else the files of timers, sorted by name
+-- what can't be read in a folder of the search path: the folder itself, or else files of timers in it, sorted by name
 abbrev pub unreadable_at : Machine → List (List ℕ) → List ℕ → List Fault
 unreadable_at machine path folder =
     faults_of_listing folder (names_at machine folder) ++ faults_of_stems machine path folder (stems_of (listed machine folder))
 
--- what can't be read of the search path
+-- what can't be read in the folders of the search path
 abbrev pub unreadable_in : Machine → List (List ℕ) → List Fault
 unreadable_in machine path = flat_map (unreadable_at machine path) path
 
@@ -79,7 +80,7 @@ shown_folder folder = record { path = string_bytes folder.path; names = map stri
 abbrev pub shown_fault : UnitFault → Fault
 shown_fault fault = record { path = string_bytes fault.path; reason = fault.reason }
 
--- the destination that is entered for a stem
+-- the destination that the map has for a stem, if it has one
 abbrev pub entered : BTreeMap (String Global) destinations.Destination → List ℕ → Option Destination
 entered destinations stem = option_map shown_destination (get_by_text destinations stem)
 

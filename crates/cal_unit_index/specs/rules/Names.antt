@@ -1,5 +1,5 @@
--- The names of units: systemd.unit(5), Description. A stem is a unit's name without its suffix `.timer`. `lookup` is
--- the destination of each stem, None if a stem has none.
+-- The names of units: systemd.unit(5), Description. A stem is a unit's name without its suffix `.timer`. `lookup`
+-- returns the destination of a stem, or None if the stem has none.
 use Rattle.std.specs.Prelude.{ℕ, Bool, false, not, List, [], ◌∷◌, ◌++◌, Option, None, Some, filter, if◌then◌else◌, string_bytes}
 use Rattle.std.specs.List.{filter_map, flat_map}
 use Rattle.std.specs.Str.{bytes_eq}
@@ -53,8 +53,9 @@ is_elsewhere file Endless = false
 abbrev pub unless_elsewhere : (List ℕ → Option Destination) → List ℕ → List ℕ → Option (List ℕ)
 unless_elsewhere lookup file name = if is_elsewhere file (following lookup name) then None else Some name
 
--- The name that an alias of the unit's file gives to a unit. A template gives its name with the unit's instance, unless
--- that name leads to another file. The name of an instance counts only for the same instance.
+-- The name that an alias of the unit's file gives to the unit. An alias that is a template gives its name with the
+-- unit's instance, unless that name leads to another file. An alias that is an instance gives its name only to a unit
+-- with the same instance.
 abbrev pub name_given : (List ℕ → Option Destination) → List ℕ → List ℕ → List ℕ → Option (List ℕ)
 name_given lookup file own alias =
     if is_template alias
@@ -77,8 +78,8 @@ abbrev pub names_with : (List ℕ → Option Destination) → List Alias → Lis
 names_with lookup aliases file own asked =
     own ∷ filter (λ name. not (bytes_eq name own)) (more_names lookup aliases file own asked)
 
--- the stems of all names of the unit that was asked for by `asked`, if its own stem is `own`, and its file was found
--- under the stem `file`
+-- the stems of all names of the unit that was asked for by the stem `asked`, if its own stem is `own`, and its file was
+-- found under the stem `file`
 abbrev pub names_on : Machine → List (List ℕ) → List ℕ → List ℕ → List ℕ → List (List ℕ)
 names_on machine path file own asked = names_with (destination_in machine path) (aliases_in machine path) file own asked
 

@@ -21,8 +21,8 @@ is_colon byte = byte == 58
 abbrev pub below : List ℕ → List ℕ
 below part = if bytes_eq part [] || bytes_eq part (codes ".") then [] else codes "/" ++ part
 
--- The path with one slash before each part, without parts that are empty or `.`. A relative path is relative to the
--- root folder, in which the managers run.
+-- The path with one slash before each part, without parts that are empty or `.`, or `/` if no part is left. A relative
+-- path is relative to the root folder, in which the managers run.
 unfoldable pub plain_path : List ℕ → List ℕ
 plain_path path =
     let parts = flat_map below (slice_split is_slash path) in if length parts == 0 then codes "/" else parts
@@ -31,17 +31,17 @@ plain_path path =
 unfoldable pub paths_in : List ℕ → List (List ℕ)
 paths_in text = filter (λ path. not (length path == 0)) (slice_split is_colon text)
 
--- the folders with one more at their end, unless they have it already
+-- the folders, followed by `folder` unless it is among them
 abbrev pub with_folder : List (List ℕ) → List ℕ → List (List ℕ)
 with_folder folders folder = if list_any (bytes_eq folder) folders then folders else folders ++ folder ∷ []
 
--- the plain paths of the folders, each only where it occurs first
+-- the plain paths of the folders, without repeats; each of them stays where it occurs first
 unfoldable pub each_once : List (List ℕ) → List (List ℕ)
 each_once folders = fold with_folder [] (map plain_path folders)
 
 -- ## The system's manager
 
--- table 1, with the folders that `systemd-analyze unit-paths` prints beyond it: both `system.attached` and
+-- the folders of table 1, and those that `systemd-analyze unit-paths` prints in addition: both `system.attached` and
 -- `/usr/lib/systemd/system`
 abbrev pub system_folders : List (List ℕ)
 system_folders =
@@ -63,8 +63,8 @@ pub record Variables : Type 0 where
   pub data_dirs : Option (List ℕ)
   pub runtime_dir : Option (List ℕ)
 
--- the directories that can have folders of unit files: the user's own for configuration, for data and, if there is one,
--- for the time until the user logs out; and those that all users share, for configuration and for data
+-- the directories in which folders of unit files can be: the user's own for configuration, for data and, if there is
+-- one, for files that are kept until the user logs out; and those that all users share, for configuration and for data
 pub record Directories : Type 0 where
   pub config_home : List ℕ
   pub data_home : List ℕ
@@ -75,12 +75,12 @@ pub record Directories : Type 0 where
 abbrev pub folder_in : List ℕ → List ℕ → List ℕ
 folder_in name directory = directory ++ codes "/systemd/" ++ name
 
--- the folders with this name in each of the directories, below `systemd`
+-- in each of the directories, the folder with this name below `systemd`
 abbrev pub folders_at : List (List ℕ) × List ℕ → List (List ℕ)
 folders_at place = map (folder_in place.1) place.0
 
--- table 2, with `/usr/local/share` and `/usr/share`: each row has directories, and the name of the folder below their
--- `systemd`
+-- table 2, and in addition `/usr/local/share` and `/usr/share`; each row has directories, and the name of the folder
+-- that is below `systemd` in each of them
 abbrev pub user_places : Directories → List (List (List ℕ) × List ℕ)
 user_places d =
     (d.config_home ∷ [], codes "user.control") ∷ (d.runtime_dirs, codes "user.control") ∷ (d.runtime_dirs, codes "transient")
@@ -93,8 +93,8 @@ user_places d =
 abbrev pub user_folders : Directories → List (List ℕ)
 user_folders d = flat_map folders_at (user_places d)
 
--- the value of a variable or, if it isn't set, the home followed by `name`; None if that isn't possible, because the
--- home isn't an absolute path
+-- the value of a variable or, if it isn't set, the home followed by `name`; None if the variable isn't set and the home
+-- isn't an absolute path
 unfoldable pub own_directory : Option (List ℕ) → Option (List ℕ) → List ℕ → Option (List ℕ)
 own_directory (Some directory) home name = Some directory
 own_directory None home name =
@@ -121,8 +121,8 @@ user_path variables =
 
 -- ## `SYSTEMD_UNIT_PATH`
 
--- the search path of a manager if the variable has this value: the paths in it, followed by the manager's usual folders
--- if it ends with a colon
+-- the search path of a manager if the variable has this value: the paths in the value and, if the value ends with a
+-- colon, the manager's usual folders
 unfoldable pub given_path : List ℕ → List (List ℕ) → List (List ℕ)
 given_path value usual = each_once (paths_in value ++ (if ends_with nat_eq value (codes ":") then usual else []))
 

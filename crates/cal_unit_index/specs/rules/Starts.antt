@@ -42,8 +42,9 @@ files_wanted machine roots name = by_name (flat_map (files_in machine) (wants_fo
 
 -- ## What is started
 
--- Whether a link starts a timer, given what it leads to: not if this masks the timer, as an empty file or a device
--- does. systemd also takes a link that it can't follow, such as one that leads in a circle, for one that doesn't mask.
+-- Whether a link starts a timer, given what it leads to. An empty file or a device masks the timer, so a link to it
+-- starts nothing. A link that systemd can't follow, such as one that leads in a circle, starts the timer: systemd takes
+-- such a link for one that doesn't mask.
 abbrev pub is_unmasked : Result Entry Unreadable → Bool
 is_unmasked (Ok Missing) = true
 is_unmasked (Ok Empty) = false
@@ -80,14 +81,16 @@ instance_by Template unit = None
 instance_by Instance unit = Some (instance_of unit)
 
 -- The instance that links in a wants folder with this name give to templates. The name is `NAME.wants` or
--- `NAME.requires`, and `NAME` has a suffix, too. If it doesn't, as in `target.wants`, the folder is for many units.
+-- `NAME.requires`. If `NAME` has no suffix, as in `target.wants`, the folder is for many units, and its links give no
+-- instance.
 abbrev pub instance_in : List ℕ → Option (List ℕ)
 instance_in folder = option_and_then (λ unit. instance_by (unit_kind_of unit) unit) (option_and_then before_dot (before_dot folder))
 
 abbrev pub if_stem : List ℕ → Option (List ℕ)
 if_stem stem = if is_stem stem then Some stem else None
 
--- the stem of a template with this instance
+-- the stem of a template's instance with this instance name; None if there is no instance name, or if the stem isn't
+-- valid
 abbrev pub instantiated : List ℕ → Option (List ℕ) → Option (List ℕ)
 instantiated template None = None
 instantiated template (Some instance) = if_stem (template ++ instance)
@@ -96,7 +99,8 @@ abbrev pub stem_in : List ℕ → List ℕ → Option (List ℕ)
 stem_in folder stem = if is_template stem then instantiated stem (instance_in folder) else Some stem
 
 -- The stem of the timer that a link with this name starts, wherever it leads, in a wants folder with the name `folder`.
--- The name of a template starts an instance of it, unless the folder can belong to several units.
+-- If the name is that of a template, the link starts an instance of it, or nothing if the folder can belong to several
+-- units.
 abbrev pub linked_stem : List ℕ → List ℕ → Option (List ℕ)
 linked_stem folder name = option_and_then (stem_in folder) (listed_stem name)
 

@@ -69,8 +69,8 @@ is_template_kind Instance = false
 abbrev pub is_template : List ℕ → Bool
 is_template stem = is_template_kind (unit_kind_of stem)
 
--- The instance in a stem: the part after its first `@`. Only the stem of an instance has one; for all others, it is
--- empty. A template's stem with an instance after it is the stem of this instance of the template.
+-- The instance in a stem: the part after its first `@`. It is empty unless the stem is that of an instance. A
+-- template's stem with an instance after it is the stem of this instance of the template.
 unfoldable pub instance_of : List ℕ → List ℕ
 instance_of stem = drop (length (stem_base stem) + 1) stem
 
@@ -89,8 +89,8 @@ may_be_linked Instance Plain is_same = false
 may_be_linked Instance Template is_same = true
 may_be_linked Instance Instance is_same = is_same
 
--- whether a link with the stem `stem` can be an alias of the timer with the stem `other`: not of itself, only of the
--- same kind of name, and an instance only of the same instance or of a template
+-- whether a link with the stem `stem` can be an alias of another timer, with the stem `other`: a plain name only of a
+-- plain name, a template only of a template, and an instance only of a template or of a name with the same instance
 abbrev pub may_lead : List ℕ → List ℕ → Bool
 may_lead stem other =
     not (bytes_eq other stem)

@@ -1,5 +1,5 @@
 -- What is found under the name of a unit: systemd.unit(5), Description and Unit File Load Path. A stem is a unit's name
--- without its suffix `.timer`. `lookup` is the destination of each stem, None if a stem has none.
+-- without its suffix `.timer`. `lookup` returns the destination of a stem, or None if the stem has none.
 use Rattle.std.specs.Prelude.{ℕ, zero, suc, List, Option, None, Some, if◌then◌else◌, ◌++◌, is_some, string_bytes}
 use Rattle.std.specs.Option.{unwrap_or}
 use Rattle.cal_machine.specs.rules.Machine.{Machine}
@@ -67,8 +67,8 @@ or_template follow_from None Nowhere = Nowhere
 or_template follow_from template (AtFile path file) = AtFile path file
 or_template follow_from template Endless = Endless
 
--- where following from a stem ends; if that is nowhere, and the stem is an instance, where following from its template
--- ends
+-- where following aliases from a stem ends; if that is nowhere, and the stem is an instance, where following aliases
+-- from its template ends
 abbrev pub following_unit : (List ℕ → Option Destination) → List ℕ → End
 following_unit lookup stem = or_template (following lookup) (template_of stem) (following lookup stem)
 

@@ -17,8 +17,8 @@ text_after day second =
 abbrev pub text_on : FormattedDay → ℤ → List ℕ
 text_on day second = text_after day (unsigned_abs (second -ℤ day.midnight))
 
--- the cached texts of a day are short: together with the time between them, they fit into 84 bytes, the maximum length
--- of a printed instant
+-- the cached texts of a day are short: together with the time between them, they fit into the 84 bytes that contracts
+-- allow for a printed instant
 pub record HasShortTexts (day : FormattedDay) : Type 0 where
   pub date : length day.day.items ≤ 26
   pub word : length day.word.items ≤ 41

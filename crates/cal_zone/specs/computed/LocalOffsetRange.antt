@@ -57,9 +57,9 @@ HasConstantOffset tz from to =
 abbrev pub transition_margin : ℕ
 transition_margin = 374_397
 
--- `past` isn't before 1970. The first transition after it, `next`, exists and is at least `transition_margin` seconds
--- after `local`. In addition, `local` is before the end of the year of `past`, or this year ends at most
--- `transition_margin` seconds after `past`.
+-- `past` isn't before 1970. There is a transition `next` (for callers, the first one after `past`), and it is at least
+-- `transition_margin` seconds after `local`. In addition, `local` is before the end of the year of `past`, or this year
+-- ends at most `transition_margin` seconds after `past`.
 pub record IsClearOfTransition (next : Option (ℤ × OffsetInfo)) (past local : ℤ) : Type 0 where
   pub change : ℤ × OffsetInfo
   pub is : next ≡ Some change

@@ -1,7 +1,7 @@
 -- Which zone to use. If the option for the zone is given, it decides. Otherwise, if the environment variable TZ may
--- decide and is set, it decides (tzset(3)). Otherwise, it is the machine's own zone, to whose file /etc/localtime leads
--- (localtime(5)). If the option's value is the name of a zone, the name is as in systemd.time(7), Calendar Events. The
--- other forms of the option's value are this project's own.
+-- decide and is set, it decides (tzset(3)). Otherwise, the zone is the machine's own, to whose file /etc/localtime
+-- leads (localtime(5)). If the option's value is the name of a zone, the name is as in systemd.time(7), Calendar
+-- Events. The other forms of the option's value are this project's own.
 use Rattle.std.specs.Prelude.{◌≡◌, ⊤, ℕ, ℤ, Bool, true, false, List, [], Option, None, Some, Result, Ok, Err, codes, if◌then◌else◌, is_some, string_bytes}
 use Rattle.std.specs.Option.{unwrap_or}
 use Rattle.std.specs.Str.{bytes_eq}
@@ -21,7 +21,7 @@ use Rattle.cal_zone_files.specs.declared.fault.ZonesFault.TheVariants as faults
 use Rattle.cal_zone_files.specs.declared.texts.ZoneText as zone_texts
 
 -- A zone: UTC, an offset in seconds east of UTC, a POSIX rule, the name of a zone, or the machine's own zone. The last
--- two values are errors: the option or the variable doesn't say which zone to use, or it can't be read.
+-- two values are errors: the option or the variable doesn't say which zone to use, or the variable can't be read.
 pub data MachineLocalZone : Type 0 where
   InUtc : MachineLocalZone
   Ahead : (seconds : ℤ) → MachineLocalZone
@@ -136,7 +136,7 @@ IsResultOf zone (Err (faults.Unread origin)) = zone ≡ UnreadIn origin
 IsResultOf zone (Err (faults.At path reason)) = ⊥
 IsResultOf zone (Err faults.NoMemory) = ⊤
 
--- the error that is reported if a `Tree` returns this error when this origin is read
+-- the error to report if reading the option or variable, which `origin` names, fails with this error of a `Tree`
 abbrev pub unread_fault : Origin → trees.TreeFault → ZonesFault
 unread_fault origin (trees.TheVariants.Unreadable why) = faults.Unread origin
 unread_fault origin trees.TheVariants.NoMemory = faults.NoMemory

@@ -1,4 +1,5 @@
--- a name is among the remaining targets if and only if it is among all targets, because all targets so far are paths
+-- all targets so far are paths, so there is a name among the remaining targets if and only if there is one among all
+-- targets
 use Rattle.std.proofs.Common.{◌≡◌, drop, map, not}
 use Rattle.std.specs.List.{list_any}
 use Rattle.cal_load.specs.rules.AllTargets.{is_path}

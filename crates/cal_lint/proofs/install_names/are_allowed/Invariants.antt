@@ -6,7 +6,7 @@ use Rattle.cal_bytes.specs.rules.Separators.{words}
 use Rattle.cal_lint.specs.rules.InstallNames.{is_allowed}
 use Rattle.cal_lint.proofs.install_names.are_allowed.Given as goal
 
--- all words so far are allowed, so the remaining words are if and only if all words are
+-- all words so far are allowed, so all remaining words are allowed if and only if all words are
 abbrev pub invariant-loop-name : goal.invariant-loop-name
 invariant-loop-name l = record {
   utf8 : shadow (Utf8 l.rest);

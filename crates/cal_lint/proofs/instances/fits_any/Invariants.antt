@@ -1,5 +1,5 @@
--- No instance before the loop's index makes a valid expression, so one of all instances does if and only if one at the
--- index or after it does.
+-- At least one of all instances makes a valid expression if and only if one of the remaining instances does, because no
+-- instance before the loop's index does.
 use Rattle.std.proofs.Common.{◌≡◌, drop, map}
 use Rattle.std.specs.List.{list_any}
 use Rattle.cal_lint.specs.rules.Instances.{fits}

@@ -6,7 +6,7 @@ use Rattle.cal_unit_index.specs.rules.Index.{IsIndexOf}
 use Rattle.cal_load.specs.rules.AllUnits.{main_stem}
 use Rattle.cal_load.proofs.names.add_all_own.Given as goal
 
--- the own stems of the units that were found so far have been added
+-- the own stems of the units that the loop has visited have been added
 abbrev pub invariant-loop-stem : goal.invariant-loop-stem
 invariant-loop-stem l =
     (machine : Machine) (path : List (List ℕ)) → IsIndexOf machine path l.index

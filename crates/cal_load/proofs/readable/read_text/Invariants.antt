@@ -1,4 +1,5 @@
--- The assignments so far, followed by those of the remaining lines, are all assignments, and systemd hasn't stopped yet.
+-- The assignments so far, followed by those of the remaining lines, are all assignments, and systemd hasn't stopped
+-- yet.
 use Rattle.std.proofs.Common.{◌≡◌, ◌+◌, ◌≤◌, ◌++◌, false, length, map}
 use denote.Shadow.{shadow}
 use denote.Text.{Utf8}

@@ -16,11 +16,11 @@ loop-rest-init c =
       shorter = let long = ap length c.new-text.ensures.bytes in omega arith;
     }
 
--- `line` is the first line of `rest`, and `after` comes after it
+-- `line` is the first line of `rest`, and `after` is what comes after it
 line_of : (rest line after : List ℕ) → 0 < length rest → line ≡ take (position_or_len (λ b. b == 10) rest + 1) rest → after ≡ after_first (λ b. b == 10) rest → FirstLine rest line after
 line_of rest line after some e f = rw (e, f) (first_line rest some)
 
--- the text and the remaining bytes together stay at most as long as all bytes
+-- after one more line was read, the text and the remaining bytes together are still at most as long as all bytes
 room : (bytes text rest line after : List ℕ) → line ≡ take (position_or_len (λ b. b == 10) rest + 1) rest → after ≡ after_first (λ b. b == 10) rest → length text + length rest ≤ length bytes
     → length (text ++ line_in_text line) + length after ≤ length bytes
 room bytes text rest line after e f h =

@@ -1,4 +1,4 @@
--- The text so far stands for the bytes before `rest`.
+-- Reading the text so far has the same result as reading the bytes before `rest`.
 use Rattle.std.proofs.Common.{ℕ, ◌+◌, ◌≤◌, length, string_bytes}
 use Rattle.cal_load.proofs.ReadableLemmas.{Reads}
 use Rattle.cal_load.proofs.readable.readable_text.Given as goal

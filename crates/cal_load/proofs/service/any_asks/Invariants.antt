@@ -1,4 +1,4 @@
--- `asks` is the answer for the assignments so far.
+-- `asks` says whether one of the conditions among the assignments so far runs `calendar-timers due`.
 use Rattle.std.proofs.Common.{◌≡◌, map, take}
 use Rattle.cal_read.specs.rules.SectionAssignments.{shown_owned_assignment}
 use Rattle.cal_load.specs.rules.Service.{any_asks}

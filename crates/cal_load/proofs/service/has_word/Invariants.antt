@@ -1,5 +1,5 @@
--- None of the words so far is the one that is looked for, so it is among the remaining words if and only if it is among
--- all words.
+-- The word is among the remaining words if and only if it is among all words, because none of the words so far equals
+-- it.
 use Rattle.std.proofs.Common.{◌≡◌, length}
 use denote.Shadow.{shadow}
 use denote.Text.{Utf8}

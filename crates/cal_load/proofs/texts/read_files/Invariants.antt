@@ -1,5 +1,5 @@
--- What was found in the files so far, followed by what is found in the remaining files, is what is found in all files. The
--- number of each file's first line is one more than the number of lines before it.
+-- What was found in the files so far, followed by what is found in the remaining files, is what is found in all files.
+-- The number of each file's first line is one more than the number of lines before it.
 use Rattle.std.proofs.Common.{◌≡◌, ◌+◌, ◌<◌, ◌++◌, ℕ, drop, get_or, length, map, take}
 use Rattle.cal_read.specs.rules.SectionAssignments.{shown_owned_assignment}
 use Rattle.cal_unit_index.specs.rules.Files.{shown_unit_text}

@@ -1,4 +1,4 @@
--- Any of the remaining suffixes fits if and only if any suffix fits, because the suffixes so far don't.
+-- One of the remaining suffixes fits if and only if any suffix fits, because the suffixes so far don't.
 use Rattle.std.proofs.Common.{◌≡◌, drop, map}
 use Rattle.std.specs.List.{list_any}
 use Rattle.cal_settings.specs.rules.Settings.{is_before_suffix}

@@ -1,4 +1,5 @@
--- The value is among the remaining words if and only if it is among all words, because it isn't one of the words so far.
+-- The value is among the remaining words if and only if it is among all words, because it isn't one of the words so
+-- far.
 use Rattle.std.proofs.Common.{◌≡◌, drop, map}
 use Rattle.std.specs.List.{list_any}
 use Rattle.std.specs.Str.{str_eq_ignore_ascii_case}

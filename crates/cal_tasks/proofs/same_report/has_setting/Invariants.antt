@@ -1,4 +1,5 @@
--- the setting is among the remaining ones if and only if it is among all of them, because none so far is this setting
+-- none of the settings so far is `setting`, so it is among the remaining settings if and only if it is among all
+-- settings
 use Rattle.std.proofs.Common.{◌≡◌, drop, map, string_bytes}
 use Rattle.std.specs.List.{list_any}
 use Rattle.std.specs.Str.{bytes_eq}

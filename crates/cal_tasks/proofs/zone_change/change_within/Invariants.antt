@@ -1,4 +1,4 @@
--- The UTC offset at `low` is the one at the start, and `width` seconds later it's another one.
+-- The UTC offset at `low` is the one at the start, and the UTC offset `width` seconds later is another one.
 use Rattle.std.proofs.Common.{◌≡◌, ◌≢◌, ◌+ℤ◌, ◌≤ℤ◌, ◌<◌, pos}
 use Rattle.cal_zone.specs.rules.Zone.{zone_of}
 use Rattle.cal_tasks.specs.rules.ZoneChange.{utc_offset}

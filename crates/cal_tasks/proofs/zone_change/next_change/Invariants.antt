@@ -1,4 +1,5 @@
--- The UTC offset has been the same each day, and `from` is as many days after `after` as the loop has done.
+-- The UTC offset has been the same on each day so far, and `from` is as many days after `after` as the loop has made
+-- iterations.
 use Rattle.std.proofs.Common.{◌≡◌}
 use Rattle.cal_zone.specs.rules.Zone.{zone_of}
 use Rattle.cal_tasks.specs.rules.ZoneChange.{utc_offset}

@@ -1,4 +1,4 @@
--- Searching the remaining verbs has the same result as searching all, because none of those so far is similar.
+-- No verb so far is similar to the word, so searching the remaining verbs has the same result as searching all verbs.
 use Rattle.std.proofs.Common.{◌≡◌, drop, find}
 use Rattle.cal_timers_command.specs.rules.Verbs.{is_similar}
 use Rattle.cal_timers_command.proofs.question.find_similar.Given as goal

@@ -6,7 +6,8 @@ use Rattle.cal_unit_index.specs.rules.DropIns.{candidates_in, shown_drop_in}
 use Rattle.cal_unit_index.specs.rules.Index.{faults_of_listing, shown_fault}
 use Rattle.cal_unit_index.proofs.drop_ins.push_all.Given as goal
 
--- what is in the folders before the loop's index has been appended
+-- the drop-ins in the folders before the loop's index, and an error for each of these folders that can't be read, have
+-- been appended
 abbrev pub invariant-loop-folder : goal.invariant-loop-folder
 invariant-loop-folder g l =
     ((machine : Machine) → g.T.Tree.shows l.tree machine

@@ -5,7 +5,7 @@ use Rattle.cal_unit_index.specs.rules.Index.{destination_of}
 use Rattle.cal_unit_index.specs.rules.Names.{name_by, shown_alias}
 use Rattle.cal_unit_index.proofs.names.given_names.Given as goal
 
--- the names so far are given by the aliases before the loop's index
+-- the names so far are those that the aliases before the loop's index give to the unit
 abbrev pub invariant-loop-alias : goal.invariant-loop-alias
 invariant-loop-alias l =
     map string_bytes l.names.keys

@@ -7,7 +7,7 @@ use Rattle.cal_unit_index.specs.rules.SearchFolders.{IsListing, path_of}
 use Rattle.cal_unit_index.specs.rules.Starts.{started_by, unreadable_named}
 use Rattle.cal_unit_index.proofs.starts.find_below.Given as goal
 
--- what the wants folders with the names so far say has been added
+-- the timers that the wants folders with the names so far start have been added, and the errors about these folders
 abbrev pub invariant-loop-name : goal.invariant-loop-name
 invariant-loop-name g l =
     ((machine : Machine) → g.T.Tree.shows l.tree machine → All (IsListing machine) l.path

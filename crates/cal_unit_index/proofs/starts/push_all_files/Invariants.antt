@@ -7,7 +7,8 @@ use Rattle.cal_unit_index.specs.rules.Index.{faults_of_listing, shown_fault}
 use Rattle.cal_unit_index.specs.rules.Starts.{files_in}
 use Rattle.cal_unit_index.proofs.starts.push_all_files.Given as goal
 
--- what is in the folders before the loop's index has been appended
+-- the files in the folders before the loop's index, and an error for each of these folders that can't be read, have
+-- been appended
 abbrev pub invariant-loop-folder : goal.invariant-loop-folder
 invariant-loop-folder g l =
     ((machine : Machine) → g.T.Tree.shows l.tree machine

@@ -1,4 +1,4 @@
--- to list the remaining candidates now is to list all of them at first
+-- listing the remaining candidates after the problems so far has the same result as listing all candidates at the start
 use Rattle.std.proofs.Common.{◌≡◌, drop, map}
 use Rattle.cal_answers.specs.rules.LintCandidates.{shown_candidate, with_candidates}
 use Rattle.cal_answers.specs.rules.LintRows.{listed_in}
