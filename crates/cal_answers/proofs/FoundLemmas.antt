@@ -1,4 +1,4 @@
--- Lemmas on what `read_question` finds.
+-- Lemmas on what is found when a question is read.
 use Rattle.std.proofs.Common.{◌≡◌, ◌∙◌, ℕ, All, Bool, Bor, true, false, List, [], ◌∷◌, Option, None, Some, ap, arith, drop, get_or, inl, inr, length, map, refl, subst, sym}
 use Rattle.std.proofs.lemmas.List.{drop-map}
 use Rattle.cal_machine.specs.declared.raw.Raw.{Ghosts}
@@ -19,8 +19,10 @@ use Rattle.cal_answers.specs.rules.Found.{AreAll, AreAllOn, AreLoadedOn, AreSide
 use Rattle.cal_answers.specs.rules.LocalClock.{IsLocalZone, clock_zone, local_zone_of, shown_zone_of}
 use Rattle.cal_answers.specs.rules.MachinePath.{machine_path}
 use Rattle.cal_answers.specs.rules.RangeZones.{AreRangeZones}
+use Rattle.cal_tasks.specs.rules.Unguarded.{unguarded_seen}
+use Rattle.cal_answers.specs.rules.Unguarded.{unguarded_on}
 
--- what was loaded for each of the two targets by itself is what was loaded for `same`
+-- if the two targets of `same` were each loaded by itself (`IsSideOn`), `AreSidesOn` holds for both
 pub two_sides : (machine : Machine) (path : List (List ℕ)) (targets : List (Bor (List ℕ))) (d : Bor (List ℕ)) (first second : Loaded)
     → length targets ≡ 2 → IsSideOn machine path (get_or targets 0 d).now first
     → IsSideOn machine path (get_or targets 1 d).now second → AreSidesOn machine path (map (λ text. text.now) targets) first second
@@ -29,7 +31,7 @@ two_sides machine path (x ∷ []) d first second two one other = absurd (let no 
 two_sides machine path (x ∷ y ∷ []) d first second two one other = (one, other)
 two_sides machine path (x ∷ y ∷ z ∷ rest) d first second two one other = absurd (let no : ⊥ = omega (arith, two) in no)
 
--- if nothing is missing on any machine and search path for which `Knows` holds, nothing is missing on one of them
+-- if `HasAll` holds for all machines and search paths that `Knows` holds for, it holds for any one of them
 all_at : (Knows : Machine → List (List ℕ) → Type 0) (sought : Machine → List (List ℕ) → List Sought) (machine : Machine) (path : List (List ℕ)) (timers : Loaded)
     → Knows machine path → HasAll Knows sought timers → HasAll (λ other folders. (other ≡ machine) × (folders ≡ path)) sought timers
 all_at Knows sought machine path timers knows all = record {
@@ -63,7 +65,8 @@ linted_at : (Knows : Machine → List (List ℕ) → Type 0) (machine : Machine)
 linted_at Knows machine path is_all [] timers knows all = units_at Knows machine path is_all timers knows all
 linted_at Knows machine path is_all (one ∷ rest) timers knows all = tt
 
--- if there are no targets, all units were looked for, and otherwise everything that the targets stand for
+-- `HasAllFor` holds if everything that the targets stand for was looked for; without targets, these are the units that
+-- other units start or, if `is_all` is true, all units
 pub all_for : (Shows : Machine → Type 0) (Is : Machine → List (List ℕ) → Type 0) (is_all : Bool) (targets : List (Bor (List ℕ))) (loaded : Loaded)
     → (targets ≡ [] → HasAllUnits (λ machine path. Shows machine × Is machine path) is_all loaded)
     → (targets ≡ [] → (machine : Machine) (path : List (List ℕ)) → Shows machine → Is machine path → shown_stems loaded.started ≡ started_if_all machine path is_all)
@@ -72,7 +75,8 @@ pub all_for : (Shows : Machine → Type 0) (Is : Machine → List (List ℕ) →
 all_for Shows Is is_all [] loaded units started targets = (units refl, λ machine path knows. started refl machine path knows.0 knows.1)
 all_for Shows Is is_all (one ∷ rest) loaded units started targets = targets (λ h. absurd (cc))
 
--- `HasAllFor` holds for the targets of `between` without the start and the end of the range, if these are `timers`
+-- `timers` are the targets of `between` after its two times. If `HasAllFor` holds for `timers`, it holds for the texts
+-- of the targets without the first two.
 pub all_between : (Shows : Machine → Type 0) (Is : Machine → List (List ℕ) → Type 0) (is_all : Bool) (targets timers : List (Bor (List ℕ))) (loaded : Loaded)
     → timers ≡ drop 2 targets
     → HasAllFor (λ machine path. Shows machine × Is machine path) is_all (map (λ text. text.now) timers) loaded
@@ -81,7 +85,7 @@ all_between Shows Is is_all targets timers loaded same all =
     subst (λ texts. HasAllFor (λ machine path. Shows machine × Is machine path) is_all texts loaded)
     (ap (λ (texts : List (Bor (List ℕ))). map (λ text. text.now) texts) same ∙ sym (drop-map (λ text. text.now) 2 targets)) all
 
--- without targets, the units that `lint` takes were looked for
+-- `HasAllLinted` holds if, in the case without targets, all units were looked for (`HasUnits`)
 pub all_linted : (Knows : Machine → List (List ℕ) → Type 0) (is_all : Bool) (targets : List (Bor (List ℕ))) (loaded : Loaded)
     → (targets ≡ [] → HasUnits Knows is_all loaded) → HasAllLinted Knows is_all (map (λ text. text.now) targets) loaded
 all_linted Knows is_all [] loaded units = units refl
@@ -102,7 +106,8 @@ loaded_at Knows machine path is_all targets (loads.Same first second) knows all 
 loaded_at Knows machine path is_all targets (loads.Next timers) knows all = tt
 loaded_at Knows machine path is_all targets (loads.Due timer) knows all = due_at Knows machine path targets timer knows all
 
--- what is known is true on a machine if each part of it is; `path` is the search path, or no folder at all
+-- what is known for a question is true on a machine (`IsKnownOn`) if each part of it is; `path` is the search path, or
+-- has no folders
 known_with : (machine : Machine) (question : Question) (known : Known) (path : List (List ℕ)) (needed : Bool)
     → needs_units question.verb (targets_of machine question) ≡ needed
     → IsLocalZone machine (local_zone_of machine question) (clock_zone known.local)
@@ -111,8 +116,9 @@ known_with : (machine : Machine) (question : Question) (known : Known) (path : L
     → IsPathOf machine question.is_user needed path → IsIndexOf machine path known.index → verb_of known.loaded ≡ question.verb
     → ((folders : List (List ℕ)) → IsIndexOf machine folders known.index → AreLoadedOn machine folders (targets_of machine question) known.loaded)
     → ((folders : List (List ℕ)) → IsIndexOf machine folders known.index → AreAllOn machine folders question.is_all (targets_of machine question) known.loaded)
+    → ((folders : List (List ℕ)) → IsIndexOf machine folders known.index → map unguarded_seen known.unguarded.items ≡ unguarded_on machine folders question.is_user known.loaded)
     → IsKnownOn machine question known
-known_with machine question known path needed about zone shown range searched is same loads whole = record {
+known_with machine question known path needed about zone shown range searched is same loads whole unguarded = record {
   local = zone;
   shown = shown;
   range = range;
@@ -122,9 +128,11 @@ known_with machine question known path needed about zone shown range searched is
   for_verb = same;
   loaded = loads path is;
   whole = whole path is;
+  unguarded = unguarded path is;
 }
 
--- what is known is true on a machine if each part of it is; `needed` says whether the question can be about units
+-- what is known for a question is true on a machine (`IsKnownOn`) if each part of it is; `needed` says whether the
+-- question can be about units
 pub known_on : (machine : Machine) (question : Question) (known : Known) (path : List (List ℕ)) (needed : Bool)
     → needs_units question.verb (targets_of machine question) ≡ needed
     → IsLocalZone machine (local_zone_of machine question) (clock_zone known.local)
@@ -134,15 +142,17 @@ pub known_on : (machine : Machine) (question : Question) (known : Known) (path :
     → (needed ≡ true → IsIndexOf machine path known.index) → verb_of known.loaded ≡ question.verb
     → ((folders : List (List ℕ)) → IsIndexOf machine folders known.index → AreLoadedOn machine folders (targets_of machine question) known.loaded)
     → ((folders : List (List ℕ)) → IsIndexOf machine folders known.index → AreAllOn machine folders question.is_all (targets_of machine question) known.loaded)
+    → ((folders : List (List ℕ)) → IsIndexOf machine folders known.index → map unguarded_seen known.unguarded.items ≡ unguarded_on machine folders question.is_user known.loaded)
     → IsKnownOn machine question known
-known_on machine question known path true about zone shown range searched index indexed same loads whole =
-    known_with machine question known path true about zone shown range searched (indexed refl) same loads whole
-known_on machine question known path false about zone shown range searched (inl is) indexed same loads whole =
-    known_with machine question known path false about zone shown range (inl searched) is same loads whole
-known_on machine question known path false about zone shown range searched (inr is) indexed same loads whole =
-    known_with machine question known [] false about zone shown range (inr refl) is same loads whole
+known_on machine question known path true about zone shown range searched index indexed same loads whole unguarded =
+    known_with machine question known path true about zone shown range searched (indexed refl) same loads whole unguarded
+known_on machine question known path false about zone shown range searched (inl is) indexed same loads whole unguarded =
+    known_with machine question known path false about zone shown range (inl searched) is same loads whole unguarded
+known_on machine question known path false about zone shown range searched (inr is) indexed same loads whole unguarded =
+    known_with machine question known [] false about zone shown range (inr refl) is same loads whole unguarded
 
--- what is true of all machines that a recorder shows follows from what it has read
+-- if something is true of all machines that agree with what a recorder has read, it follows from what was read
+-- (`FollowsFromRead`)
 pub follows : {R : Type 0} {raw : Ghosts R} (tree : Recorder R raw) (IsSo : Machine → Type 0)
     → ((machine : Machine) → AgreesWith tree.entries tree.names tree.files tree.variables machine → IsSo machine)
     → FollowsFromRead raw.gives IsSo

@@ -10,3 +10,4 @@ mod RangeZoneLemmas
 pub mod MachinePathLemmas
 mod RunLemmas
 mod TriggerLemmas
+mod UnguardedLemmas

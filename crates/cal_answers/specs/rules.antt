@@ -5,6 +5,7 @@ pub mod LintCandidates
 pub mod LintFiles
 pub mod LintOutput
 pub mod LintRows
+pub mod LintService
 pub mod LintStatus
 pub mod LintTimers
 pub mod LintUnits
@@ -17,4 +18,5 @@ pub mod RangeZones
 pub mod Remarks
 pub mod Trigger
 pub mod Run
+pub mod Unguarded
 pub mod Unanswerable

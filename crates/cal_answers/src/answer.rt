@@ -22,7 +22,7 @@ use crate::remarks::{with_empty_folders, with_verb_hint, with_zone_note};
 use crate::timers::{list, show};
 use cal_load::{BrokenLine, IgnoredLine, Loaded, LoadedTimer, TargetFault, UnusableZone};
 use cal_plan::PlanFault;
-use cal_tasks::Clocked;
+use cal_tasks::{Clocked, UnguardedTimer};
 use cal_timers_command::Question;
 use cal_timers_report::Style;
 use cal_timers_text::{broken_text, fault_text, ignored_text, unusable_zone_text};
@@ -31,7 +31,8 @@ use cal_zone::Zone;
 use std::alloc::{AllocError, Global};
 
 /// The exit status if a timer can't be loaded (except by `same`), a line of its files is ignored, a file or folder
-/// can't be read, folders have no timers, `lint` finds an error or, with `--strict`, a warning, or two timers differ.
+/// can't be read, or folders have no timers. Also the exit status if `lint` finds an error or, with `--strict`, a
+/// warning, if two timers differ, and if a run isn't due.
 pub(crate) const INVALID: u8 = 1;
 
 /// The exit status if the question can't be answered at all, for example because the local zone isn't known, or because
@@ -48,9 +49,7 @@ pub(crate) struct Answer {
     pub out: String,
     /// The error lines, for standard error.
     pub err: String,
-    /// The exit status: 0 for success; 1 if a timer can't be loaded, a line of its files is ignored, a file or folder
-    /// can't be read, folders have no timers, `lint` finds an error or, with `--strict`, a warning, or two timers
-    /// differ; 2 if the question can't be answered at all, for example because the local zone isn't known.
+    /// The exit status: 0 for success, [`INVALID`] or [`UNUSABLE`].
     pub status: u8,
 }
 
@@ -66,10 +65,14 @@ pub(crate) struct Asked<'a> {
     pub range: &'a RangeZones,
     /// The arguments that are neither the verb nor options.
     pub targets: &'a [String],
+    /// The timers whose exceptions systemd ignores.
+    pub unguarded: &'a [UnguardedTimer],
     /// The number of elapses to show.
     pub count: u32,
     /// Whether a question without targets is about all units, not only about those that other units start.
     pub is_all: bool,
+    /// Whether the units are those of a user.
+    pub is_user: bool,
     /// Whether a warning of `lint` gives the status [`INVALID`].
     pub is_strict: bool,
     pub is_json: bool,
@@ -94,7 +97,7 @@ pub(crate) fn answer_question(
     }
 }
 
-/// Answers a question from what is known for it.
+/// Answers a question from all that is known for it.
 fn answer_known(
     alloc: Global,
     question: &Question,
@@ -132,15 +135,18 @@ fn asked_by<'a>(
         shown: Clocked { now, local: shown },
         range: &known.range,
         targets: question.targets.as_slice(),
+        unguarded: known.unguarded.as_slice(),
         count: question.count.unwrap_or(DEFAULT_COUNT),
         is_all: question.is_all,
+        is_user: question.is_user,
         is_strict: question.is_strict,
         is_json: question.is_json,
         style,
     }
 }
 
-/// Answers a question, and adds the error lines that don't depend on what the verb answers.
+/// Answers a question: runs the verb, and adds the error lines about unreadable parts of the search path and, except
+/// for `due`, the remarks (see [`with_remarks`]).
 fn answer_asked(
     alloc: Global,
     question: &Question,
@@ -164,7 +170,8 @@ fn answer_asked(
     }
 }
 
-/// Adds the error lines that aren't about a timer, except for those about unreadable folders.
+/// Adds the remarks: a hint at a misspelled verb, a line for each folder without timers, and a line if the zone file is
+/// missing.
 fn with_remarks(
     alloc: Global,
     question: &Question,
@@ -266,8 +273,8 @@ pub(crate) fn with_error_lines(
 }
 
 /// Appends an error line about each line of the timers' files that is ignored, and about each drop-in that systemd
-/// stops reading at some line. If several timers have such a line, as in a drop-in for all of them, it has only one
-/// error line.
+/// stops reading at some line. If several timers share such a line, as in a drop-in for all of them, it is reported
+/// only once.
 pub(crate) fn push_ignored_lines(
     alloc: Global,
     lines: &mut Vec<String>,
@@ -448,7 +455,7 @@ fn push_with_feed(text: &mut String, line: &str) -> Result<(), AllocError>
     text.push('\n')
 }
 
-/// Returns the exit status if nothing but these error lines decides it.
+/// Returns the exit status of an answer whose status depends only on these error lines.
 pub(crate) fn status_by(lines: &str) -> u8
     ensures { result ≡ status_by lines.now }
 {

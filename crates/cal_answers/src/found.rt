@@ -3,6 +3,7 @@
 use crate::local_clock::LocalClock;
 use crate::range_zones::RangeZones;
 use cal_load::{Loaded, LoadedFiles};
+use cal_tasks::UnguardedTimer;
 use cal_unit_index::UnitIndex;
 use cal_zone::Instant;
 
@@ -30,6 +31,8 @@ pub struct Known {
     pub index: UnitIndex,
     /// What the targets of the question stand for.
     pub loaded: LoadedByVerb,
+    /// For `list`, `show` and `lint`, the timers whose exceptions systemd ignores. Empty for the other verbs.
+    pub unguarded: Vec<UnguardedTimer>,
 }
 
 /// What was loaded for the targets of a question, by its verb.

@@ -18,10 +18,12 @@ mod range_zones;
 mod reading;
 mod remarks;
 mod search_path;
+mod service_problems;
 mod setting_problems;
 mod timer_problems;
 mod timers;
 mod trigger;
+mod unguarded;
 mod whole;
 
 pub use arguments_to_bytes::{System, answer_arguments};

@@ -20,6 +20,7 @@ use crate::compare::push_line_unless;
 use crate::index::target_faults;
 use crate::problems::Problems;
 use crate::remarks::is_not_found;
+use crate::service_problems::add_unguarded;
 use crate::setting_problems::add_missing_units;
 use crate::timer_problems::{add_failed, add_idle, add_ignored_of};
 use cal_lint::findings;
@@ -36,8 +37,8 @@ use std::alloc::{AllocError, Global};
 const MAX_TEXT: usize = 3 * 1_048_576;
 
 /// Returns all problems of the files, each file checked by itself; then what is wrong with the timers that are made of
-/// them; and then warnings about expressions and exceptions that have no effect. `index` is the index of the search
-/// path.
+/// them; then warnings about expressions and exceptions that have no effect; and then warnings about exceptions that
+/// systemd ignores. `index` is the index of the search path.
 pub(crate) fn lint(
     alloc: Global,
     asked: Asked<'_>,
@@ -54,6 +55,13 @@ pub(crate) fn lint(
     add_files(alloc, asked.style, files.files.as_slice(), &mut problems)?;
     let found = problems_of_timers(alloc, asked.at, index, timers)?;
     problems.add_all(alloc, asked.style, found.as_slice())?;
+    add_unguarded(
+        alloc,
+        asked.style,
+        asked.is_user,
+        asked.unguarded,
+        &mut problems,
+    )?;
     let err = error_lines(alloc, files.faults.as_slice(), timers.faults.as_slice())?;
     let counts = problems.counts();
     let status = lint_status(asked.is_strict, counts, has_lines(err.as_str()));
@@ -127,7 +135,8 @@ fn has_lines(err: &str) -> bool
     !err.is_empty()
 }
 
-/// Returns an error about everything that can't be read, so that the JSON document has it, too, besides the error lines.
+/// Returns an error about everything that can't be read. The JSON document lists these errors, in addition to the error
+/// lines.
 fn unread(
     alloc: Global,
     index: &UnitIndex,
@@ -145,7 +154,7 @@ fn unread(
     Ok(found)
 }
 
-/// Appends an error about each of these targets that can't be found or read.
+/// Appends an error for each of `faults` that says that something can't be found or read.
 fn add_unread(
     alloc: Global,
     faults: &[TargetFault],
@@ -174,8 +183,8 @@ fn add_if_unread(
     }
 }
 
-/// Returns the error lines about units, files and folders that can't be read, which are `of_files`, and about timers
-/// whose files are links to nothing.
+/// Returns the error lines about units, files and folders that can't be read (`of_files`), and those about timers that
+/// weren't found, such as links to nothing.
 fn error_lines(
     alloc: Global,
     of_files: &[TargetFault],

@@ -8,12 +8,16 @@ ghost use Rattle.cal_timers_report.specs.rules.ReportView.{problem_seen};
 ghost use Rattle.cal_answers.specs.rules.LintCandidates.{candidate_row, has_in_line, has_in_line_of, has_text, is_left_out, shown_candidate, with_candidate, with_candidates};
 ghost use Rattle.cal_answers.specs.rules.LintFiles.{listed_finding};
 ghost use Rattle.cal_answers.specs.rules.LintOutput.{text_with};
+ghost use Rattle.cal_answers.specs.rules.LintService.{unguarded_problem};
 ghost use Rattle.cal_answers.specs.rules.LintRows.{is_error_at, is_error_kind, is_problem_at, lint_counts, listed_as, listed_in, rows_of, shown_problem};
 
 use crate::candidates::{Candidate, Unless};
 use cal_lint::{Finding, ProblemKind};
 use cal_timers_report::{ProblemRow, Style, lint_json};
-use cal_timers_text::{ProblemCounts, finding_text, message_of, problem_text, push_counts};
+use cal_timers_text::{
+    ProblemCounts, condition_line, finding_text, message_of, problem_text, push_counts,
+    unguarded_message, unguarded_text,
+};
 use std::alloc::{AllocError, Global};
 
 /// The problems that were found so far, in the order in which they are printed.
@@ -25,7 +29,8 @@ pub(crate) struct Problems {
 /// A problem of a file or a timer, with all that is printed about it.
 #[derive(Debug, Drop)]
 struct Problem {
-    /// The path of the file or, for a problem of the timer as a whole, the name of the timer.
+    /// The path of the file that has the problem. If the problem has no line, this can also be the name of a timer, or
+    /// the path of a folder.
     file: String,
     line: Option<u32>,
     column: Option<u32>,
@@ -110,8 +115,8 @@ impl Problems {
         Ok(())
     }
 
-    /// Adds these candidates in order. Leaves out each candidate that is listed already, or that isn't listed because
-    /// of a problem in its line.
+    /// Adds these candidates in order. Leaves out each candidate that is listed already, or whose line already has a
+    /// problem of the kind that its [`Unless`](crate::candidates::Unless) names.
     pub(crate) fn add_all(
         &mut self,
         alloc: Global,
@@ -159,7 +164,31 @@ impl Problems {
         Ok(())
     }
 
-    /// Returns whether a candidate with this text is left out.
+    /// Adds the warning that systemd ignores the exceptions of the timer whose own file has this path, with the line
+    /// that the service needs. `is_user` says whether the timer is a unit of a user.
+    pub(crate) fn add_unguarded(
+        &mut self,
+        alloc: Global,
+        style: Style,
+        is_user: bool,
+        path: &str,
+    ) -> Result<(), AllocError>
+        ensures { OnOk result (listed_in self.new ≡ listed_in self.old ++ unguarded_problem style is_user path.now ∷ []) }
+    {
+        let text = unguarded_text(alloc, path, is_user, style)?;
+        self.list.push(Problem {
+            file: String::from_str(alloc, path)?,
+            line: None,
+            column: None,
+            is_error: false,
+            message: String::from_str(alloc, unguarded_message())?,
+            suggestion: Some(String::from_str(alloc, condition_line(is_user))?),
+            text,
+        })?;
+        Ok(())
+    }
+
+    /// Returns whether a candidate with this text is left out because of a problem that is listed already.
     fn leaves_out(&self, candidate: &Candidate, text: &str) -> bool
         ensures { result ≡ is_left_out (shown_candidate candidate.now) text.now (listed_in self.now) }
     {

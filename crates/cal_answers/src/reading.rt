@@ -16,6 +16,7 @@ use crate::local_clock::LocalClock;
 use crate::range_zones::RangeZones;
 use crate::search_path::search_path;
 use crate::trigger::targets_on;
+use crate::unguarded::unguarded_on;
 use cal_machine::{Entry, Raw, Recorder, Tree, TreeFault};
 use cal_timers_command::{Question, Verb};
 use cal_timers_text::zones_text;
@@ -81,6 +82,7 @@ fn read_known<T: Tree>(
         targets.as_slice(),
         question.is_all,
     )?;
+    let unguarded = unguarded_on(alloc, tree, &index, question.is_user, &loaded)?;
     Ok(Known {
         now,
         local,
@@ -88,6 +90,7 @@ fn read_known<T: Tree>(
         range,
         index,
         loaded,
+        unguarded,
     })
 }
 
@@ -101,8 +104,8 @@ fn present(given: Option<i64>, clock: Option<i64>) -> Option<Instant>
 
 /// Checks that `root`, the value of `--root`, leads to a folder. Checks nothing if `root` is empty.
 ///
-/// The paths of `tree` are below this folder. Elsewhere, the folder itself is the empty path, and counts as a folder
-/// without a check. Here it is asked for as `/`: if `root` is a link, the slash makes the system follow this link.
+/// All paths of `tree` are below `root`, so the folder to check has the path `/`. (If `root` is a link, this slash
+/// makes the system follow it.) The empty path would not do: it counts as a folder without a check.
 fn check_root<T: Tree>(alloc: Global, tree: &mut T, root: &str) -> Result<(), ReadFault>
     ensures fault { IfErr result (λ fault. fault ≢ ReadFault.NoMemory → (machine : Machine) → T.shows tree.new machine → HasNoRoot machine root.now) }
     ensures grows { (machine : Machine) → T.shows tree.new machine → T.shows tree.old machine }

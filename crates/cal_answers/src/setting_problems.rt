@@ -55,7 +55,8 @@ fn add_settings(
     Ok(())
 }
 
-/// Appends a warning about a setting that systemd ignores, which is left out if its line has a problem already.
+/// Appends a warning about a setting that systemd ignores. `lint` leaves out the warning if the setting's line has a
+/// problem already.
 fn add_setting(
     alloc: Global,
     timer: &str,
@@ -79,8 +80,9 @@ fn add_setting(
     )
 }
 
-/// Appends an error about each timer in the search path whose unit to start has no file there: systemd refuses to start
-/// such a timer. `index` is the index of the search path. If any part of the search path can't be read, appends nothing.
+/// Appends an error about each timer in the search path whose unit to start has no file there, since systemd refuses to
+/// start such a timer. `index` is the index of the search path. Appends nothing if any part of the search path can't be
+/// read.
 pub(crate) fn add_missing_units(
     alloc: Global,
     index: &UnitIndex,
@@ -142,7 +144,7 @@ fn add_missing_unit(
     push_error_about(alloc, found, timer, message.as_str())
 }
 
-/// Returns the unit that a timer of the search path starts, if no folder of the search path has a file of it.
+/// Returns the unit that a timer of the search path starts, if the unit has no file in any folder of the search path.
 fn missing_unit(
     alloc: Global,
     index: &UnitIndex,
@@ -158,7 +160,7 @@ fn missing_unit(
     if_missing(alloc, index, unit)
 }
 
-/// Returns the unit if no folder of the search path has a file of it.
+/// Returns the unit if it has no file in any folder of the search path.
 fn if_missing(
     alloc: Global,
     index: &UnitIndex,
@@ -176,9 +178,9 @@ fn if_missing(
     Ok(None)
 }
 
-/// Returns whether the first of these files, a timer's own file, is in a folder of the search path. A timer elsewhere
-/// was read by its path or found in a folder that was named, and its unit can be in any folder.
-fn is_in_search_path(index: &UnitIndex, files: &[UnitText]) -> bool
+/// Returns whether the first of these files, a timer's own file, is in a folder of the search path. If it isn't, a path
+/// or a folder was given as a target, and the unit that the timer starts can be in any folder.
+pub(crate) fn is_in_search_path(index: &UnitIndex, files: &[UnitText]) -> bool
     ensures { (machine : Machine) (path : List (List ℕ)) → IsIndexOf machine path index.now
         → result ≡ is_in_folders path files.now }
 {
@@ -202,7 +204,7 @@ fn is_directly_in(folder: &str, path: &str) -> bool
     }
 }
 
-/// Returns whether this is a slash and a text without slashes.
+/// Returns whether `rest` is a slash followed by a text without slashes.
 fn is_name_below(rest: &[u8]) -> bool
     ensures { result ≡ is_name_below rest.now }
 {

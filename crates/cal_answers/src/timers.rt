@@ -1,4 +1,5 @@
-//! The verbs that show the next elapses: `list`, `show` and `next`. `show` and `next` have answers of the same form.
+//! The verbs that show the next elapses: `list`, `show` and `next`. The answers of `show` and `next` have the same
+//! form.
 
 ghost use Rattle.std.specs.Prelude.{◌≡◌, ◌≤◌, IfOk, map, string_bytes};
 ghost use Rattle.std.specs.List.{AllZip};
@@ -14,13 +15,14 @@ use cal_timers_report::{ListRow, ShownTimer, list_json, list_text, show_json, sh
 use cal_timers_text::warnings_of;
 use std::alloc::{AllocError, Global};
 
-/// Lists the next elapse of each timer, soonest first. Masked units are left out if the question is only about units
-/// that other units start, since systemd doesn't start a masked unit.
+/// Lists the next elapse of each timer, soonest first. Masked units are listed only if there are targets or `--all` is
+/// given. Otherwise, only the units that other units start are listed, and systemd doesn't start a masked unit.
 pub(crate) fn list(alloc: Global, asked: Asked<'_>, loaded: &Loaded) -> Result<Answer, PlanFault>
     ensures status { IfOk result (λ answer. answer.status ≤ 2) }
     ensures answer { IfOk result (λ answer. IsListAnswer asked.entry loaded.now (printed_of answer)) }
 {
-    let rows = list_rows(alloc, asked.at, loaded, listed_masked(asked, loaded))?;
+    let masked = listed_masked(asked, loaded);
+    let rows = list_rows(alloc, asked.at, loaded, masked, asked.unguarded)?;
     let out = list_output(alloc, asked, rows.as_slice())?;
     with_error_lines(alloc, loaded, out)
 }
@@ -68,7 +70,14 @@ fn shown_timers<'l>(
     let mut timers: Vec<ShownTimer<'l>> = Vec::new(alloc);
     for timer in &loaded.timers {
         let warnings = warnings_of(alloc, asked.at, timer)?;
-        let shown = shown_timer(alloc, asked.at, timer, warnings, asked.count)?;
+        let shown = shown_timer(
+            alloc,
+            asked.at,
+            timer,
+            warnings,
+            asked.unguarded,
+            asked.count,
+        )?;
         timers.push(shown)?;
     }
     Ok(timers)

@@ -9,8 +9,10 @@ pub mod ListLaw
 pub mod ListReport
 pub mod Midnight
 pub mod LoadedElapses
+pub mod Notes
 pub mod SameReport
 pub mod SeveralTimers
 pub mod ShowReport
+pub mod Unguarded
 pub mod When
 pub mod ZoneChange

@@ -1,6 +1,6 @@
 //! The reports of `calendar-timers` about timers that were loaded: a list of their next elapses, each timer in detail,
-//! their elapses in a range of instants, and what only one of two timers has. Besides, whether the run of a service
-//! that starts now is due, and the expressions and exceptions that have no effect.
+//! their elapses in a range of instants, and what only one of two timers has. Also, whether the run of a service that
+//! starts now is due, and which expressions and exceptions have no effect.
 #![tactic(auto)]
 
 mod at_instant;
@@ -27,6 +27,7 @@ mod show_report;
 mod shown;
 mod skipped;
 mod timer_elapse;
+mod unguarded;
 mod when;
 mod zone_change;
 
@@ -38,4 +39,5 @@ pub use list_report::list_rows;
 pub use midnight::stops_at_midnight;
 pub use same_report::compare;
 pub use show_report::shown_timer;
+pub use unguarded::{UnguardedTimer, own_path};
 pub use when::{WhenFault, read_when};

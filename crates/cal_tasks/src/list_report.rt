@@ -6,11 +6,13 @@ ghost use Rattle.cal_plan.specs.declared.plan_fault.PlanFault.TheVariants.{NoMem
 ghost use Rattle.cal_timers_report.specs.rules.ReportView.{unit_seen};
 ghost use Rattle.cal_tasks.specs.rules.ListReport.{IsListOf, elapsing_row, elapsing_rows, ended_row, ended_rows, failed_rows, list_notes, masked_rows, noted_row, row_if};
 ghost use Rattle.cal_tasks.specs.rules.LoadedElapses.{first_unzoned_line};
+ghost use Rattle.cal_tasks.specs.rules.Unguarded.{unguarded_seen};
 
 use crate::clocked::Clocked;
-use crate::notes::{push_all, push_if};
+use crate::notes::{push_all, push_exceptions_note, push_if};
 use crate::several::next_of_timers;
 use crate::timer_elapse::TimerElapse;
+use crate::unguarded::UnguardedTimer;
 use cal_load::{Loaded, LoadedTimer, TargetFault};
 use cal_plan::PlanFault;
 use cal_timers_report::ListRow;
@@ -20,8 +22,9 @@ use std::alloc::{AllocError, Global};
 /// Returns a row for each unit of `list`: first the timers that elapse after the present, soonest first, then the other
 /// timers, then the units with the names `masked`, and last the units that fail to load.
 ///
-/// The notes of a timer are `disabled` if no other unit starts it, `never` if it has expressions and doesn't elapse
-/// any more, all of [`LoadedTimer::notes`], and `exceptions` if it has exceptions.
+/// The notes of a timer are `disabled` if no other unit starts it, `never` if it has expressions but doesn't elapse any
+/// more, `exceptions ignored by systemd` if it has exceptions and is one of the `unguarded` timers, and its other
+/// settings: those that decide when it starts a unit, and which unit that is.
 ///
 /// Fails with [`PlanFault::NoSuchZone`] if an expression or an exception of a timer names a zone that wasn't loaded for
 /// this timer, and with [`PlanFault::NoMemory`] if allocation fails.
@@ -30,15 +33,16 @@ pub fn list_rows<'a>(
     at: Clocked<'_>,
     loaded: &'a Loaded,
     masked: &'a [String],
+    unguarded: &[UnguardedTimer],
 ) -> Result<Vec<ListRow<'a>>, PlanFault>
-    ensures rows { IfOk result (λ rows. IsListOf at.entry loaded.now (map string_bytes masked.now) (map unit_seen rows.items)) }
+    ensures rows { IfOk result (λ rows. IsListOf at.entry loaded.now (map string_bytes masked.now) (map unguarded_seen unguarded.now) (map unit_seen rows.items)) }
     ensures fault { IfErr result (λ fault. fault ≢ NoMemory
         → IsUnzoned (first_unzoned_line at.entry loaded.now.timers.items) fault) }
 {
     let next = next_of_timers(alloc, at, loaded.timers.as_slice())?;
     let mut rows: Vec<ListRow<'a>> = Vec::new(alloc);
-    push_soonest(alloc, &mut rows, loaded, next.soonest.as_slice())?;
-    push_ended(alloc, &mut rows, loaded, next.never.as_slice())?;
+    push_soonest(alloc, &mut rows, loaded, unguarded, next.soonest.as_slice())?;
+    push_ended(alloc, &mut rows, loaded, unguarded, next.never.as_slice())?;
     push_masked(alloc, &mut rows, masked)?;
     push_failed(alloc, &mut rows, loaded.faults.as_slice())?;
     Ok(rows)
@@ -49,14 +53,15 @@ fn push_soonest<'a>(
     alloc: Global,
     rows: &mut Vec<ListRow<'a>>,
     loaded: &'a Loaded,
+    unguarded: &[UnguardedTimer],
     soonest: &[TimerElapse],
 ) -> Result<(), AllocError>
     ensures { OnOk result (map unit_seen rows.new.items
-        ≡ map unit_seen rows.old.items ++ elapsing_rows loaded.now soonest.now) }
+        ≡ map unit_seen rows.old.items ++ elapsing_rows loaded.now (map unguarded_seen unguarded.now) soonest.now) }
 {
     for elapse in soonest {
         let timer = timer_at(loaded, elapse.timer);
-        push_elapsing(alloc, rows, loaded, elapse.instant, timer)?;
+        push_elapsing(alloc, rows, loaded, unguarded, elapse.instant, timer)?;
     }
     Ok(())
 }
@@ -72,16 +77,17 @@ fn push_elapsing<'a>(
     alloc: Global,
     rows: &mut Vec<ListRow<'a>>,
     loaded: &'a Loaded,
+    unguarded: &[UnguardedTimer],
     instant: Instant,
     timer: Option<&'a LoadedTimer>,
 ) -> Result<(), AllocError>
     ensures { OnOk result (map unit_seen rows.new.items
-        ≡ map unit_seen rows.old.items ++ row_if (elapsing_row loaded.now instant.secs) (option_copied timer.entry)) }
+        ≡ map unit_seen rows.old.items ++ row_if (elapsing_row loaded.now (map unguarded_seen unguarded.now) instant.secs) (option_copied timer.entry)) }
 {
     let Some(timer) = timer else {
         return Ok(());
     };
-    let row = elapsing_row(alloc, loaded, instant, timer)?;
+    let row = elapsing_row(alloc, loaded, unguarded, instant, timer)?;
     rows.push(row)?;
     Ok(())
 }
@@ -91,13 +97,14 @@ fn push_ended<'a>(
     alloc: Global,
     rows: &mut Vec<ListRow<'a>>,
     loaded: &'a Loaded,
+    unguarded: &[UnguardedTimer],
     ended: &[usize],
 ) -> Result<(), AllocError>
     ensures { OnOk result (map unit_seen rows.new.items
-        ≡ map unit_seen rows.old.items ++ ended_rows loaded.now ended.now) }
+        ≡ map unit_seen rows.old.items ++ ended_rows loaded.now (map unguarded_seen unguarded.now) ended.now) }
 {
     for index in ended {
-        push_ended_one(alloc, rows, loaded, timer_at(loaded, *index))?;
+        push_ended_one(alloc, rows, loaded, unguarded, timer_at(loaded, *index))?;
     }
     Ok(())
 }
@@ -107,15 +114,16 @@ fn push_ended_one<'a>(
     alloc: Global,
     rows: &mut Vec<ListRow<'a>>,
     loaded: &'a Loaded,
+    unguarded: &[UnguardedTimer],
     timer: Option<&'a LoadedTimer>,
 ) -> Result<(), AllocError>
     ensures { OnOk result (map unit_seen rows.new.items
-        ≡ map unit_seen rows.old.items ++ row_if (ended_row loaded.now) (option_copied timer.entry)) }
+        ≡ map unit_seen rows.old.items ++ row_if (ended_row loaded.now (map unguarded_seen unguarded.now)) (option_copied timer.entry)) }
 {
     let Some(timer) = timer else {
         return Ok(());
     };
-    let row = ended_row(alloc, loaded, timer)?;
+    let row = ended_row(alloc, loaded, unguarded, timer)?;
     rows.push(row)?;
     Ok(())
 }
@@ -157,12 +165,13 @@ fn push_failed<'a>(
 fn elapsing_row<'a>(
     alloc: Global,
     loaded: &'a Loaded,
+    unguarded: &[UnguardedTimer],
     instant: Instant,
     timer: &'a LoadedTimer,
 ) -> Result<ListRow<'a>, AllocError>
-    ensures { IfOk result (λ row. unit_seen row ≡ elapsing_row loaded.now instant.secs timer.now) }
+    ensures { IfOk result (λ row. unit_seen row ≡ elapsing_row loaded.now (map unguarded_seen unguarded.now) instant.secs timer.now) }
 {
-    let notes = notes_of(alloc, loaded, timer, false)?;
+    let notes = notes_of(alloc, loaded, unguarded, timer, false)?;
     Ok(ListRow {
         unit: timer.name.as_str(),
         next: Some(instant),
@@ -174,11 +183,12 @@ fn elapsing_row<'a>(
 fn ended_row<'a>(
     alloc: Global,
     loaded: &'a Loaded,
+    unguarded: &[UnguardedTimer],
     timer: &'a LoadedTimer,
 ) -> Result<ListRow<'a>, AllocError>
-    ensures { IfOk result (λ row. unit_seen row ≡ ended_row loaded.now timer.now) }
+    ensures { IfOk result (λ row. unit_seen row ≡ ended_row loaded.now (map unguarded_seen unguarded.now) timer.now) }
 {
-    let notes = notes_of(alloc, loaded, timer, true)?;
+    let notes = notes_of(alloc, loaded, unguarded, timer, true)?;
     Ok(ListRow {
         unit: timer.name.as_str(),
         next: None,
@@ -199,14 +209,15 @@ fn noted_row<'a>(alloc: Global, unit: &'a str, note: &'a str) -> Result<ListRow<
     })
 }
 
-/// Returns the notes of a timer. `is_ended` is `true` if it doesn't elapse any more.
+/// Returns the notes of a timer. `is_ended` is `true` if the timer doesn't elapse any more.
 fn notes_of<'a>(
     alloc: Global,
     loaded: &'a Loaded,
+    unguarded: &[UnguardedTimer],
     timer: &'a LoadedTimer,
     is_ended: bool,
 ) -> Result<Vec<&'a str>, AllocError>
-    ensures { IfOk result (λ notes. map (λ note. note.now) notes.items ≡ list_notes loaded.now is_ended timer.now) }
+    ensures { IfOk result (λ notes. map (λ note. note.now) notes.items ≡ list_notes loaded.now (map unguarded_seen unguarded.now) is_ended timer.now) }
 {
     let mut notes: Vec<&'a str> = Vec::new(alloc);
     push_if(
@@ -215,7 +226,7 @@ fn notes_of<'a>(
         "disabled",
     )?;
     push_if(&mut notes, is_ended && !timer.lines().is_empty(), "never")?;
+    push_exceptions_note(&mut notes, timer, unguarded)?;
     push_all(&mut notes, timer.notes.as_slice())?;
-    push_if(&mut notes, !timer.exceptions().is_empty(), "exceptions")?;
     Ok(notes)
 }

@@ -15,12 +15,13 @@ ghost use Rattle.cal_tasks.specs.rules.ListLaw.{timer_row};
 ghost use Rattle.cal_tasks.specs.rules.ListReport.{IsListOf, failed_rows, masked_rows};
 ghost use Rattle.cal_tasks.specs.rules.LoadedElapses.{elapses_in};
 ghost use Rattle.cal_tasks.specs.rules.SameReport.{side_of};
+ghost use Rattle.cal_tasks.specs.rules.Unguarded.{UnguardedView};
 
 /// `list` has exactly one row for each loaded timer, each masked unit that it is given, and each unit that fails to
 /// load.
 pub fn list_has_one_row_for_each_unit()
-    ensures { (at : Clocked) (loaded : Loaded) (masked : List (List ℕ)) (rows : List UnitView) → IsListOf at loaded masked rows
-        → IsPermutation ((map (timer_row at loaded) loaded.timers.items ++ masked_rows masked) ++ failed_rows loaded.faults.items) rows }
+    ensures { (at : Clocked) (loaded : Loaded) (masked : List (List ℕ)) (unguarded : List UnguardedView) (rows : List UnitView) → IsListOf at loaded masked unguarded rows
+        → IsPermutation ((map (timer_row at loaded unguarded) loaded.timers.items ++ masked_rows masked) ++ failed_rows loaded.faults.items) rows }
 {}
 
 /// `same` finds no difference of the elapses exactly if both timers have the same elapses after the present.

@@ -1,26 +1,30 @@
 //! The report of `show` and `next`: a timer in detail.
 
-ghost use Rattle.std.specs.Prelude.{◌≡◌, IfOk, map, string_bytes};
+ghost use Rattle.std.specs.Prelude.{◌≡◌, ◌++◌, IfOk, map, string_bytes};
 ghost use Rattle.std.specs.List.{AllZip};
 ghost use Rattle.cal_load.specs.rules.Loaded.{expressions_in};
 ghost use Rattle.cal_timer.specs.rules.TimerView.{shown};
 ghost use Rattle.cal_timers_report.specs.rules.ReportView.{clock_time_seen, line_seen, place_seen, timer_seen};
+ghost use Rattle.cal_tasks.specs.rules.Notes.{exceptions_note};
 ghost use Rattle.cal_tasks.specs.rules.ShowReport.{IsPlaceOf, IsShownLine, IsShownTimer, clock_time, is_skipped};
+ghost use Rattle.cal_tasks.specs.rules.Unguarded.{unguarded_seen};
 ghost use Rattle.std.specs.Option.{option_map};
 
 use crate::clock_note::{ClockChange, ClockNote};
 use crate::clocked::Clocked;
 use crate::elapses::first_elapses;
-use crate::notes::push_all;
+use crate::notes::{push_all, push_exceptions_note};
 use crate::past::last_elapse;
 use crate::skipped::clock_notes;
+use crate::unguarded::UnguardedTimer;
 use cal_load::LoadedTimer;
 use cal_plan::PlanFault;
 use cal_timer::TimerLine;
 use cal_timers_report::{ClockTime, Place, ShownLine, ShownTimer};
 use std::alloc::{AllocError, Global};
 
-/// Returns the report of a timer, with these warnings and at most `count` elapses.
+/// Returns the report of a timer, with these warnings and at most `count` elapses. The report notes that systemd
+/// ignores the exceptions if the timer is one of the `unguarded` timers.
 ///
 /// Fails with [`PlanFault::NoSuchZone`] if an expression or an exception names a zone that wasn't loaded, and with
 /// [`PlanFault::NoMemory`] if allocation fails.
@@ -29,16 +33,17 @@ pub fn shown_timer<'a>(
     at: Clocked<'_>,
     timer: &'a LoadedTimer,
     warnings: Vec<String>,
+    unguarded: &[UnguardedTimer],
     count: u32,
 ) -> Result<ShownTimer<'a>, PlanFault>
-    ensures { IfOk result (λ view. IsShownTimer at.entry count (map string_bytes warnings.items) timer.now (timer_seen view)) }
+    ensures { IfOk result (λ view. IsShownTimer at.entry count (map string_bytes warnings.items) (map unguarded_seen unguarded.now) timer.now (timer_seen view)) }
 {
     let elapses = first_elapses(alloc, at, timer, count)?;
     // The call above found all zones, so the one below fails only if allocation fails.
     let last = last_elapse(alloc, at, timer, timer.exceptions())?;
     let notes = clock_notes(alloc, at, timer)?;
     let files = file_paths(alloc, timer)?;
-    let settings = notes_of(alloc, timer)?;
+    let settings = notes_of(alloc, timer, unguarded)?;
     let expressions = shown_lines(alloc, timer, timer.lines())?;
     let exceptions = shown_lines(alloc, timer, timer.exceptions())?;
     let clock = clock_times(alloc, timer, notes.first.as_slice())?;
@@ -56,11 +61,17 @@ pub fn shown_timer<'a>(
     })
 }
 
-/// Returns the notes of a timer: its other settings.
-fn notes_of<'a>(alloc: Global, timer: &'a LoadedTimer) -> Result<Vec<&'a str>, AllocError>
-    ensures { IfOk result (λ notes. map (λ note. note.now) notes.items ≡ map string_bytes timer.now.notes.items) }
+/// Returns the notes of a timer: that systemd ignores its exceptions, and its other settings.
+fn notes_of<'a>(
+    alloc: Global,
+    timer: &'a LoadedTimer,
+    unguarded: &[UnguardedTimer],
+) -> Result<Vec<&'a str>, AllocError>
+    ensures { IfOk result (λ notes. map (λ note. note.now) notes.items
+        ≡ exceptions_note (map unguarded_seen unguarded.now) timer.now ++ map string_bytes timer.now.notes.items) }
 {
     let mut notes: Vec<&'a str> = Vec::new(alloc);
+    push_exceptions_note(&mut notes, timer, unguarded)?;
     push_all(&mut notes, timer.notes.as_slice())?;
     Ok(notes)
 }

@@ -15,7 +15,7 @@ const STYLE: Style = Style {
     is_bold: true,
 };
 
-/// Returns what is printed for the arguments in `line`, which are separated by `|`: standard output and after it
+/// Returns what is printed for the arguments in `line`, which are separated by `|`: standard output followed by
 /// standard error. The present is Mon 2024-01-01 00:00:00 UTC.
 fn answer(alloc: Global, items: &[(&str, Item<'_>)], line: &str) -> Result<Vec<u8>, Fail> {
     let arguments: Vec<&str> = line.split('|').collect(alloc)?;
@@ -50,7 +50,7 @@ static ANSWERS: [(&str, &str); 17] = [
     (
         "list",
         "\x1b[1mNEXT                            LEFT  UNIT     NOTES\x1b[0m
-Mon 2024-01-01 12:00:00 +01:00  11h   a.timer  RandomizedDelaySec=1h  exceptions
+Mon 2024-01-01 12:00:00 +01:00  11h   a.timer  exceptions ignored by systemd  R\u{2026}
 ",
     ),
     (
@@ -62,8 +62,8 @@ Mon 2024-01-01 12:00:00 +01:00  11h   a.timer  RandomizedDelaySec=1h  exceptions
     "unix": 1704106800,
     "left": "11h",
     "notes": [
-      "RandomizedDelaySec=1h",
-      "exceptions"
+      "exceptions ignored by systemd",
+      "RandomizedDelaySec=1h"
     ]
   }
 ]
@@ -84,7 +84,8 @@ Mon 2024-01-01 02:00:00 +01:00  1h    notes.timer  disabled
   Calendar:  Mon..Fri *-*-* 18:00:00
              *-*-* 12:00:00 Test/Fixed
   Except:    Tue *-*-* 18:00:00
-  Also:      RandomizedDelaySec=1h
+  Also:      exceptions ignored by systemd
+             RandomizedDelaySec=1h
   Last:      Sun 2023-12-31 12:00:00 +01:00  13h ago
   Next:      Mon 2024-01-01 12:00:00 +01:00  in 11h
              Mon 2024-01-01 18:00:00 +01:00  in 17h
@@ -281,7 +282,7 @@ fn answers(rt: HostRuntime) -> Result<(), Fail> {
 type Row = (&'static str, Item<'static>, &'static str, &'static str);
 
 static UNREADABLE: [Row; 16] = [
-    // A drop-in, or a folder of drop-ins, that can't be read is missing from its unit, and nothing else is.
+    // A drop-in or a folder of drop-ins that can't be read is missing from the unit's report, and nothing else is.
     (
         "/etc/systemd/system/a.timer.d",
         Item::Closed,
@@ -378,7 +379,8 @@ only a.timer has OnStartupSec=1min
         "due|a|--utc",
         "/etc/systemd/system/a.timer: cannot be read\n",
     ),
-    // If there is no zone file, `due` doesn't warn about it, since any error line would make the service fail.
+    // If the zone file of `/etc/localtime` can't be found, `due` doesn't say so, since any error line would make the
+    // service fail.
     (
         "/etc/localtime",
         Item::Hidden,
@@ -448,8 +450,8 @@ fn what_cannot_be_read(rt: HostRuntime) -> Result<(), Fail> {
     Ok(())
 }
 
-/// How many bytes of standard output can be written, and the status, standard output and standard error of `next daily`
-/// in this case.
+/// How many bytes can be written to standard output, and what `next daily` then results in: the status, standard output
+/// and standard error.
 type Cut = (usize, u8, &'static str, &'static str);
 
 static CUTS: [Cut; 3] = [

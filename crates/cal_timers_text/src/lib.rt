@@ -6,6 +6,7 @@
 mod fault_lines;
 mod finding_lines;
 mod messages;
+mod service_lines;
 mod warnings;
 
 pub use fault_lines::{
@@ -16,4 +17,5 @@ pub use finding_lines::{ProblemCounts, finding_text, problem_text, push_counts};
 pub use messages::{
     idle_words, ignored_setting_words, invalid_words, message_of, missing_unit_words, mistake_words,
 };
+pub use service_lines::{condition_line, unguarded_message, unguarded_text};
 pub use warnings::warnings_of;

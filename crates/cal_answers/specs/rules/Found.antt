@@ -24,6 +24,8 @@ use Rattle.cal_answers.specs.rules.MachinePath.{machine_path}
 use Rattle.cal_answers.specs.rules.Present.{IsPresent}
 use Rattle.cal_answers.specs.rules.RangeZones.{AreRangeZones}
 use Rattle.cal_answers.specs.rules.Trigger.{targets_on}
+use Rattle.cal_answers.specs.rules.Unguarded.{unguarded_on}
+use Rattle.cal_tasks.specs.rules.Unguarded.{unguarded_seen}
 use Rattle.cal_answers.specs.rules.Unanswerable.{IsUnanswerableOn}
 
 -- ## What was loaded
@@ -56,7 +58,7 @@ verb_of (loads.Same first second) = verbs.Same
 verb_of (loads.Next timers) = verbs.Next
 verb_of (loads.Due timer) = verbs.Due
 
--- what was loaded for `due` is a timer of the machine; if nothing was loaded, no timer is asked about
+-- what was loaded for `due`: a timer of the machine, or None if there is no target
 abbrev pub IsDueOn : Machine → List (List ℕ) → List (List ℕ) → Option Loaded → Type 0
 IsDueOn machine path targets None = targets ≡ []
 IsDueOn machine path targets (Some timer) = AreTimersOn machine path timer
@@ -72,7 +74,7 @@ AreLoadedOn machine path targets (loads.Same first second) = AreSidesOn machine 
 AreLoadedOn machine path targets (loads.Next timers) = AreMadeOf machine targets timers
 AreLoadedOn machine path targets (loads.Due timer) = IsDueOn machine path targets timer
 
--- the targets without the start and the end of the range, which are the first two of `between`
+-- the targets that name timers: all of them or, for `between`, those after the first two, which are times
 abbrev pub timer_targets : {X : Type 0} → Verb → List X → List X
 timer_targets verbs.List targets = targets
 timer_targets verbs.Show targets = targets
@@ -86,13 +88,12 @@ timer_targets verbs.Due targets = targets
 abbrev pub has_name : List (List ℕ) → Bool
 has_name targets = list_any (λ target. not (is_path target)) targets
 
--- whether these targets can be about units: without a target, a question is about units; otherwise one of them must be
--- something else than a path
+-- whether these targets can be about units: there are none, or at least one of them isn't a path
 abbrev pub name_units : List (List ℕ) → Bool
 name_units targets = length targets == 0 || has_name targets
 
--- whether a question can be about units; the targets of `next` are expressions, and `due` is about no timer if it has
--- no target
+-- whether a question can be about units; this is never so for `next`, whose targets are expressions, nor for `due`
+-- without a target
 abbrev pub needs_units : Verb → List (List ℕ) → Bool
 needs_units verbs.List targets = name_units targets
 needs_units verbs.Show targets = name_units targets
@@ -102,21 +103,22 @@ needs_units verbs.Same targets = name_units targets
 needs_units verbs.Next targets = false
 needs_units verbs.Due targets = has_name targets
 
--- All units that are taken without a target were looked for, and nothing else was loaded; if these are all units of the
--- search path, it is known which of them are started.
+-- All units that are loaded if no target is given were looked for, and nothing else was loaded: the units that other
+-- units start or, if `is_all` is true, all units. In the second case, `timers.started` has the units that other units
+-- start.
 abbrev pub HasUnits : (Machine → List (List ℕ) → Type 0) → Bool → Loaded → Type 0
 HasUnits Knows is_all timers =
     HasAllUnits Knows is_all timers
     × ((machine : Machine) (path : List (List ℕ)) → Knows machine path → shown_stems timers.started ≡ started_if_all machine path is_all)
 
--- Everything that these targets stand for was looked for, and nothing else was loaded. Without a target, that is the
--- units that other units start, or, if `is_all`, all units.
+-- Everything that these targets stand for was looked for, and nothing else was loaded. Without a target, these are the
+-- units that other units start or, if `is_all` is true, all units.
 abbrev pub HasAllFor : (Machine → List (List ℕ) → Type 0) → Bool → List (List ℕ) → Loaded → Type 0
 HasAllFor Knows is_all [] timers = HasUnits Knows is_all timers
 HasAllFor Knows is_all (one ∷ rest) timers = HasAllTargets Knows (one ∷ rest) timers
 
--- Which units `lint` takes without a target. Nothing is said about its targets, since those that end in `.conf` aren't
--- loaded as timers.
+-- If there is no target, all units were looked for, as `HasUnits` says. If there are targets, this says nothing, since
+-- targets that end in `.conf` aren't loaded as timers.
 abbrev pub HasAllLinted : (Machine → List (List ℕ) → Type 0) → Bool → List (List ℕ) → Loaded → Type 0
 HasAllLinted Knows is_all [] timers = HasUnits Knows is_all timers
 HasAllLinted Knows is_all (one ∷ rest) timers = ⊤
@@ -126,8 +128,8 @@ abbrev pub HasDue : (Machine → List (List ℕ) → Type 0) → List (List ℕ)
 HasDue Knows targets None = ⊤
 HasDue Knows targets (Some timer) = HasAllTargets Knows targets timer
 
--- For `list`, `show`, `between` and `due`, and for `lint` without targets, no timer is missing on a machine and search
--- path for which `Knows` holds. About all other questions, only `AreLoadedOn` says something.
+-- For `list`, `show`, `between` and `due`, and for `lint` without targets, no timer is missing on any machine and
+-- search path for which `Knows` holds. For all other questions, this says nothing.
 abbrev pub AreAll : (Machine → List (List ℕ) → Type 0) → Bool → List (List ℕ) → LoadedByVerb → Type 0
 AreAll Knows is_all targets (loads.List timers) = HasAllFor Knows is_all targets timers
 AreAll Knows is_all targets (loads.Show timers) = HasAllFor Knows is_all targets timers
@@ -143,22 +145,22 @@ AreAllOn machine path is_all targets loaded = AreAll (λ other folders. (other �
 
 -- ## What was found
 
--- the index is that of this search path, or of no folder at all
+-- the index is that of this search path, or of an empty search path
 abbrev pub IsIndexFor : Machine → List (List ℕ) → UnitIndex → Type 0
 IsIndexFor machine path index = IsIndexOf machine path index ⊎ IsIndexOf machine [] index
 
--- the path is the search path of the machine's manager; if no unit is needed, it may also have no folder at all
+-- the path is the search path of the machine's manager; if no unit is needed, the path may also be empty
 abbrev pub IsPathOf : Machine → Bool → Bool → List (List ℕ) → Type 0
 IsPathOf machine is_user true path = machine_path machine is_user ≡ Some path
 IsPathOf machine is_user false path = (machine_path machine is_user ≡ Some path) ⊎ (path ≡ [])
 
--- what a question is about on this machine
+-- the targets of a question; if `due` has none, the timer that started the service on this machine takes their place
 abbrev pub targets_of : Machine → Question → List (List ℕ)
 targets_of machine question = targets_on machine question.verb (map string_bytes question.targets.items)
 
 -- What is known for a question is true on this machine: the local zone, the zone in which times are shown, the zones
--- that a range names, the index of the search path, and the timers and files that the targets stand for, of which none
--- is missing.
+-- that a range names, the index of the search path, and the timers and files that were loaded. No timer is missing
+-- (`AreAllOn`), and `unguarded` has the timers whose exceptions systemd ignores.
 pub record IsKnownOn (machine : Machine) (question : Question) (known : Known) : Type 0 where
   pub local : IsLocalZone machine (local_zone_of machine question) (clock_zone known.local)
   pub shown : IsLocalZone machine (shown_zone_of machine question) (clock_zone known.shown)
@@ -169,22 +171,23 @@ pub record IsKnownOn (machine : Machine) (question : Question) (known : Known) :
   pub for_verb : verb_of known.loaded ≡ question.verb
   pub loaded : AreLoadedOn machine path (targets_of machine question) known.loaded
   pub whole : AreAllOn machine path question.is_all (targets_of machine question) known.loaded
+  pub unguarded : map unguarded_seen known.unguarded.items ≡ unguarded_on machine path question.is_user known.loaded
 
--- `IsSo` follows from what was read. `given`: the system calls returned everything that was read. `is_so`: it is true
--- on every machine that matches what was read. `possible`: such a machine exists.
+-- `IsSo` follows from what was read. `given`: all that was read was returned by system calls. `is_so`: `IsSo` holds for
+-- every machine that matches what was read. `possible`: such a machine exists.
 pub record FollowsFromRead (gives : Said → Bool) (IsSo : Machine → Type 0) : Type 0 where
   pub read : Seen
   pub given : AllGiven gives read
   pub is_so : (machine : Machine) → Matches read machine → IsSo machine
   pub possible : (machine : Machine) × Matches read machine
 
--- What is known for a question follows from what was read, and the present is that of the question, or else that of the
--- clock.
+-- What is known for a question follows from what was read, and the present is the one that the question states or, if
+-- it states none, the time of the clock.
 abbrev pub IsKnownBy : (Said → Bool) → Question → Option ℤ → Known → Type 0
 IsKnownBy gives question clock known =
     IsPresent (option_or question.now clock) (Some known.now) × FollowsFromRead gives (λ machine. IsKnownOn machine question known)
 
--- What was found follows from what was read: either what is known, or that the question can't be answered.
+-- What was found follows from what was read. It is either all that is known, or that the question can't be answered.
 abbrev pub IsFoundBy : (Said → Bool) → Question → Option ℤ → founds.Found → Type 0
 IsFoundBy gives question clock (founds.TheVariants.Unanswerable reason) =
     FollowsFromRead gives (λ machine. IsUnanswerableOn machine question clock)

@@ -1,11 +1,13 @@
 -- What `lint` prints, and its exit status.
-use Rattle.std.specs.Prelude.{◌≡◌, ◌==◌, ℕ, Bool, not, List, ◌++◌, if◌then◌else◌, length}
+use Rattle.std.specs.Prelude.{◌≡◌, ◌==◌, ℕ, Bool, not, List, ◌++◌, if◌then◌else◌, length, map}
 use Rattle.std.specs.List.{flat_map}
 use Rattle.cal_load.specs.declared.files.LoadedFiles.{LoadedFiles}
 use Rattle.cal_load.specs.declared.loaded.Loaded.{Loaded}
 use Rattle.cal_machine.specs.rules.Machine.{Machine}
 use Rattle.cal_timers_report.specs.rules.Documents.{lint_document}
+use Rattle.cal_tasks.specs.rules.Unguarded.{unguarded_seen}
 use Rattle.cal_timers_text.specs.declared.finding_lines.ProblemCounts.{ProblemCounts}
+use Rattle.cal_tasks.specs.rules.Unguarded.{unguarded_seen}
 use Rattle.cal_timers_text.specs.rules.LintText.{counts_line}
 use Rattle.cal_unit_index.specs.declared.index.UnitIndex.{UnitIndex}
 use Rattle.cal_unit_index.specs.rules.Index.{IsIndexOf}
@@ -13,6 +15,7 @@ use Rattle.cal_answers.specs.declared.answer.Asked.{Asked}
 use Rattle.cal_answers.specs.rules.LintCandidates.{Candidate, with_candidates}
 use Rattle.cal_answers.specs.rules.LintFiles.{AreProblemsOfFiles}
 use Rattle.cal_answers.specs.rules.LintRows.{Listed, lint_counts, rows_of}
+use Rattle.cal_answers.specs.rules.LintService.{unguarded_problems}
 use Rattle.cal_answers.specs.rules.LintStatus.{lint_status}
 use Rattle.cal_answers.specs.rules.LintTimers.{problems_of_timers, unread}
 
@@ -23,15 +26,17 @@ text_with counts listed = flat_map (λ problem. problem.text) listed ++ counts_l
 abbrev pub lint_text : List Listed → List ℕ
 lint_text listed = text_with (lint_counts listed) listed
 
--- the text about these problems, or the document of them and of what can't be read
+-- the text about these problems or, with `--json`, the document of these problems and of what can't be read (`lacking`)
 abbrev pub lint_output : Asked → List Candidate → List Listed → List ℕ
 lint_output asked lacking listed =
     if asked.is_json then lint_document (rows_of (with_candidates asked.style listed lacking)) else lint_text listed
 
--- the problems of the files, followed by those that were found when the timers were loaded
+-- the problems of the files, followed by those that were found when the timers were loaded, and the warnings about
+-- exceptions that systemd ignores
 abbrev pub all_problems : Asked → Machine → List (List ℕ) → Loaded → List Listed → List Listed
 all_problems asked machine path loaded found =
     with_candidates asked.style found (problems_of_timers asked.at machine path loaded)
+    ++ unguarded_problems asked.style asked.is_user (map unguarded_seen asked.unguarded.now)
 
 abbrev pub IsLintOutput : Asked → Machine → List (List ℕ) → LoadedFiles → Loaded → List ℕ → Type 0
 IsLintOutput asked machine path files loaded out =
@@ -48,9 +53,9 @@ IsLintEnd asked machine path files loaded err status =
     (found : List Listed) × AreProblemsOfFiles asked.style files.files.items found
     × (status ≡ lint_status asked.is_strict (lint_counts (all_problems asked machine path loaded found)) (has_lines err))
 
--- ## By the index
+-- ## For all machines that have this index
 
--- `index` is the index of a search path on a machine; what is printed is true of each such machine and search path
+-- on each machine and for each search path that has this index, `out` is what `lint` prints
 abbrev pub IsLintOutputBy : Asked → UnitIndex → LoadedFiles → Loaded → List ℕ → Type 0
 IsLintOutputBy asked index files loaded out =
     (machine : Machine) (path : List (List ℕ)) → IsIndexOf machine path index → IsLintOutput asked machine path files loaded out

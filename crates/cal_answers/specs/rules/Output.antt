@@ -22,6 +22,7 @@ use Rattle.cal_tasks.specs.rules.DueRun.{IsDueRun}
 use Rattle.cal_tasks.specs.rules.ListReport.{IsListOf}
 use Rattle.cal_tasks.specs.rules.LoadedElapses.{setting_for}
 use Rattle.cal_tasks.specs.rules.SameReport.{comparison_of}
+use Rattle.cal_tasks.specs.rules.Unguarded.{unguarded_seen}
 use Rattle.cal_tasks.specs.rules.ShowReport.{IsShownTimer}
 use Rattle.cal_tasks.specs.rules.When.{setting_with, when_in}
 use Rattle.cal_timers_command.specs.declared.question.Question.{Question}
@@ -50,7 +51,7 @@ use Rattle.cal_answers.specs.rules.Remarks.{with_common_lines}
 
 -- ## Verbs
 
--- the error lines about what was loaded, and the exit status by them
+-- what is printed has the error lines about what was loaded, and the exit status that they lead to
 abbrev pub HasLoadedLines : Loaded → Printed → Type 0
 HasLoadedLines loaded printed = (printed.err ≡ loaded_lines loaded) × (printed.status ≡ status_by printed.err)
 
@@ -66,7 +67,8 @@ list_output asked rows =
 
 abbrev pub IsListOutput : Asked → Loaded → List ℕ → Type 0
 IsListOutput asked loaded out =
-    (rows : List UnitView) × IsListOf asked.at loaded (listed_masked asked loaded) rows × (out ≡ list_output asked rows)
+    (rows : List UnitView) × IsListOf asked.at loaded (listed_masked asked loaded) (map unguarded_seen asked.unguarded.now) rows
+    × (out ≡ list_output asked rows)
 
 abbrev pub show_output : Asked → List TimerView → List (List ℕ) → List ℕ
 show_output asked timers masked =
@@ -76,7 +78,8 @@ show_output asked timers masked =
 -- the report of a timer, with its warnings and as many elapses as are asked for
 abbrev pub IsShownAs : Asked → LoadedTimer → TimerView → Type 0
 IsShownAs asked timer view =
-    IsShownTimer asked.at asked.count (warnings_in (setting_for asked.at timer) asked.at.now.secs (expressions_in timer.calendar)) timer view
+    IsShownTimer asked.at asked.count (warnings_in (setting_for asked.at timer) asked.at.now.secs (expressions_in timer.calendar))
+    (map unguarded_seen asked.unguarded.now) timer view
 
 abbrev pub IsShowOutput : Asked → Loaded → List ℕ → Type 0
 IsShowOutput asked loaded out =
@@ -87,7 +90,7 @@ abbrev pub between_output : Asked → List ElapseView → List ℕ
 between_output asked rows =
     if asked.is_json then between_document asked.shown.local rows else between_lines asked.shown.local rows
 
--- the elapses in the range
+-- the output has the elapses of the timers in the range
 abbrev pub IsBetweenOutput : Asked → Loaded → ℤ → ℤ → List ℕ → Type 0
 IsBetweenOutput asked loaded from before out =
     (rows : List ElapseView) × AreBetween asked.at from before loaded.timers.items rows × (out ≡ between_output asked rows)
@@ -101,18 +104,18 @@ IsRangeAnswer asked loaded from before false printed =
 abbrev pub bad_time : List ℕ → StampFault → List ℕ
 bad_time text fault = text ++ codes ": " ++ message_of fault
 
--- the answer for a time that can't be used; there is none if memory ran out
+-- the answer for a time that can't be used; if memory ran out, there is no answer
 abbrev pub IsStoppedBy : List ℕ → WhenFault → Printed → Type 0
 IsStoppedBy text (NoInstant fault) printed = IsStopped (bad_time text fault) printed
 IsStoppedBy text NoMemory printed = ⊥
 
--- the answer for a range with this text as its end, which resolves to an instant or not
+-- the answer for a range that starts at `from`, given the result of resolving its end, the text `before`
 abbrev pub IsAnswerUntil : Asked → Loaded → ℤ → List ℕ → Result ℤ StampFault → Printed → Type 0
 IsAnswerUntil asked loaded from before (Err fault) printed = IsStopped (bad_time before fault) printed
 IsAnswerUntil asked loaded from before (Ok end) printed = IsRangeAnswer asked loaded from end (int_lt end from) printed
 
--- the answer for a range between these texts, if the start resolves to an instant or not; the end is the first such
--- time after the start
+-- the answer for a range between these two texts, given the result of resolving its start; an end such as `Mon 06:00`
+-- is the first such time after the start
 abbrev pub IsAnswerFrom : Asked → Loaded → List ℕ → List ℕ → Result ℤ StampFault → Printed → Type 0
 IsAnswerFrom asked loaded from before (Err fault) printed = IsStopped (bad_time from fault) printed
 IsAnswerFrom asked loaded from before (Ok start) printed =
@@ -133,7 +136,8 @@ IsBetweenAnswer asked loaded targets printed = IsAnswerOfTexts asked loaded (sli
 abbrev pub is_named : List ℕ → LoadedTimer → Bool
 is_named target timer = bytes_eq (string_bytes timer.name) (trim_end_matches is_slash target)
 
--- whether a target was loaded as a folder: its first timer isn't named by the target, or nothing at all was loaded
+-- whether a target was loaded as a folder: it is a path, and its first timer has another name than the target; or
+-- nothing was found for it, neither a timer nor an error nor a masked unit
 abbrev pub is_folder : List ℕ → Loaded → Option LoadedTimer → Bool
 is_folder target loaded None = length loaded.faults.items == 0 && length loaded.masked.items == 0
 is_folder target loaded (Some timer) = is_path target && not (is_named target timer)
@@ -150,7 +154,7 @@ folder_of_both None other first second = None
 folder_of_both (Some one) None first second = None
 folder_of_both (Some one) (Some other) first second = option_or (if_folder one first) (if_folder other second)
 
--- the reason why a folder can't be compared, and why it isn't a timer whose run is due
+-- the reason that is given if a target of `same` or `due` is a folder
 abbrev pub not_a_timer : List ℕ → List ℕ
 not_a_timer folder = folder ++ codes ": a directory, not a timer"
 
@@ -162,14 +166,14 @@ same_output asked found =
 abbrev pub is_same : ComparisonView → Bool
 is_same found = is_none found.one.only && is_none found.other.only
 
--- the comparison of two timers with these error lines: the exit status is 0 if there are no error lines and both
--- elapse at the same instants, and otherwise 1
+-- the comparison of two timers, printed with these error lines; the exit status is 0 if there are no error lines and
+-- both timers elapse at the same instants, and otherwise 1
 abbrev pub IsComparedAnswer : Asked → List ℕ → ComparisonView → Printed → Type 0
 IsComparedAnswer asked lines found printed =
     (printed.out ≡ same_output asked found) × (printed.err ≡ lines)
     × (printed.status ≡ (if is_same found && length lines == 0 then 0 else 1))
 
--- the answer if one of two timers wasn't loaded: a masked unit has a line, too
+-- the answer if one of the two timers wasn't loaded: error lines, among them one for each masked unit
 abbrev pub IsUnloadedPair : Loaded → Loaded → Printed → Type 0
 IsUnloadedPair first second printed =
     (printed.out ≡ [])
@@ -224,7 +228,8 @@ abbrev pub IsUnloadedBy : Bool → List ℕ → Printed → Type 0
 IsUnloadedBy true lines printed = IsStopped (codes "no timer was found") printed
 IsUnloadedBy false lines printed = (printed.out ≡ []) × (printed.err ≡ lines) × (printed.status ≡ 1)
 
--- the answer if no timer was loaded: the error lines, and a line if it is masked
+-- the answer if no timer was loaded: the error lines and a line for each masked unit; if there are no such lines, the
+-- reason that no timer was found
 abbrev pub IsUnloaded : Loaded → Printed → Type 0
 IsUnloaded loaded printed = IsUnloadedBy (length (unloaded_lines loaded) == 0) (unloaded_lines loaded) printed
 
@@ -272,7 +277,8 @@ IsVerbAnswer asked index (loads.Same first second) printed = IsSameAnswer asked 
 IsVerbAnswer asked index (loads.Next timers) printed = IsShowAnswer asked timers printed
 IsVerbAnswer asked index (loads.Due timer) printed = IsDueAnswer asked timer printed
 
--- What a verb needs to know is what the question says and what is known: without `--count`, 5 elapses are shown.
+-- What a verb needs to know (`asked`) agrees with the question, with what is known, and with the style of the output.
+-- Without `--count`, 5 elapses are shown.
 pub record IsAskedBy (question : Question) (known : Known) (style : Style) (asked : Asked) : Type 0 where
   pub now : asked.at.now ≡ known.now
   pub local : clock_zone known.local ≡ Some (zone_of asked.at.local)
@@ -280,13 +286,15 @@ pub record IsAskedBy (question : Question) (known : Known) (style : Style) (aske
   pub shown : clock_zone known.shown ≡ Some (zone_of asked.shown.local)
   pub range : asked.range.now ≡ known.range
   pub targets : asked.targets.now ≡ question.targets.items
+  pub unguarded : asked.unguarded.now ≡ known.unguarded.items
   pub count : asked.count ≡ unwrap_or question.count 5
   pub is_all : asked.is_all ≡ question.is_all
+  pub is_user : asked.is_user ≡ question.is_user
   pub is_strict : asked.is_strict ≡ question.is_strict
   pub is_json : asked.is_json ≡ question.is_json
   pub styled : asked.style ≡ style
 
--- the answer of the verb to what is known, and then the error lines that don't depend on what the verb answers
+-- the answer of the verb to what is known, followed by the error lines that `with_common_lines` adds
 abbrev pub IsAnswerAsked : Question → Known → Asked → Printed → Type 0
 IsAnswerAsked question known asked printed =
     (answer : Printed) × IsVerbAnswer asked known.index known.loaded answer × (printed ≡ with_common_lines question known answer)
@@ -307,8 +315,8 @@ abbrev pub IsAnswerToFound : Question → founds.Found → Style → Printed →
 IsAnswerToFound question (founds.TheVariants.Unanswerable reason) style printed = IsStopped (string_bytes reason) printed
 IsAnswerToFound question (founds.TheVariants.Answerable known) style printed = IsAnswerToKnown question known style printed
 
--- What a run prints: there is something that was found, it follows from what the system calls returned (`IsFoundBy`),
--- and what is printed is the report of it, with its error lines and its exit status.
+-- What a run prints is the answer to what was found, and what was found follows from what the system calls returned
+-- (`IsFoundBy`).
 pub record IsAnswerOn (gives : Said → Bool) (question : Question) (clock : Option ℤ) (style : Style) (printed : Printed) : Type 0 where
   pub found : founds.Found
   pub follows : IsFoundBy gives question clock found

@@ -1,17 +1,18 @@
 -- The row of each timer in the report of `list`, whatever the order of the rows is (systemd.timer(5), OnCalendar=).
-use Rattle.std.specs.Prelude.{ℤ, List, [], ◌∷◌}
+use Rattle.std.specs.Prelude.{ℕ, ℤ, List, [], ◌∷◌}
 use Rattle.cal_load.specs.declared.loaded.Loaded.{Loaded}
 use Rattle.cal_load.specs.declared.loaded.LoadedTimer.{LoadedTimer}
 use Rattle.cal_timers_report.specs.rules.ReportView.{UnitView}
 use Rattle.cal_tasks.specs.declared.clocked.Clocked.{Clocked}
 use Rattle.cal_tasks.specs.rules.ListReport.{elapsing_row, ended_row}
 use Rattle.cal_tasks.specs.rules.LoadedElapses.{elapses_in}
+use Rattle.cal_tasks.specs.rules.Unguarded.{UnguardedView}
 
 -- the row of a timer that elapses at these instants
-abbrev pub row_by : Loaded → LoadedTimer → List ℤ → UnitView
-row_by loaded timer [] = ended_row loaded timer
-row_by loaded timer (secs ∷ later) = elapsing_row loaded secs timer
+abbrev pub row_by : Loaded → List UnguardedView → LoadedTimer → List ℤ → UnitView
+row_by loaded unguarded timer [] = ended_row loaded unguarded timer
+row_by loaded unguarded timer (secs ∷ later) = elapsing_row loaded unguarded secs timer
 
 -- the row of a timer: its first elapse after the present, if there is one, and its notes
-abbrev pub timer_row : Clocked → Loaded → LoadedTimer → UnitView
-timer_row at loaded timer = row_by loaded timer (elapses_in at at.now.secs timer)
+abbrev pub timer_row : Clocked → Loaded → List UnguardedView → LoadedTimer → UnitView
+timer_row at loaded unguarded timer = row_by loaded unguarded timer (elapses_in at at.now.secs timer)

@@ -1,5 +1,5 @@
 -- The report of `show` and `next`: a timer in detail (systemd.timer(5), OnCalendar=).
-use Rattle.std.specs.Prelude.{◌≡◌, ◌≤◌, ◌^◌, ℕ, Bool, false, true, List, Option, None, Some, length, map, slice_get, string_bytes, take, IsSorted}
+use Rattle.std.specs.Prelude.{◌≡◌, ◌≤◌, ◌^◌, ◌++◌, ℕ, Bool, false, true, List, Option, None, Some, length, map, slice_get, string_bytes, take, IsSorted}
 use Rattle.std.specs.List.{All, AllZip}
 use Rattle.cal_load.specs.declared.loaded.LoadedTimer.{LoadedTimer}
 use Rattle.cal_load.specs.declared.timer_files.TimerFiles.{TimerFiles}
@@ -17,6 +17,8 @@ use Rattle.cal_tasks.specs.declared.clocked.Clocked.{Clocked}
 use Rattle.cal_tasks.specs.rules.ClockNotes.{AreNotesOf, IsNoteAmong, by_local, limit_if, max_notes}
 use Rattle.cal_tasks.specs.rules.LastElapse.{IsLastOf, timed_exceptions}
 use Rattle.cal_tasks.specs.rules.LoadedElapses.{elapses_in, setting_for}
+use Rattle.cal_tasks.specs.rules.Notes.{exceptions_note}
+use Rattle.cal_tasks.specs.rules.Unguarded.{UnguardedView}
 
 -- where the line with this continued number is; None if no file has it, or if its number in the file needs over 32 bits
 abbrev pub IsPlaceOf : TimerFiles → ℕ → Option PlaceView → Type 0
@@ -43,8 +45,9 @@ abbrev pub clock_time : List (TimerLine Fields) → ClockNote → ClockTimeView
 clock_time lines note =
     record { local = note.local; is_skipped = is_skipped note.change; zone = zone_on (slice_get lines note.zone) }
 
--- The notes are about local times that the expressions match and that a change of their zone skips or repeats. For the
--- next two changes, none is missing among the first 16; `has_more` says whether there are more than these.
+-- The notes are about local times that the expressions match and that a change of their zone skips or repeats. Of the
+-- notes about the next two changes of each zone, none of the first 16 is missing; `has_more` says whether there are
+-- more than 16.
 pub record AreFirstNotes (at : Clocked) (timer : LoadedTimer) (has_more : Bool) (notes : List ClockNote) : Type 0 where
   pub true_ones : All (IsNoteAmong (setting_for at timer) at.now.secs (expressions_in timer.calendar)) notes
   pub none_missing : All (AreNotesOf (setting_for at timer) at.now.secs (expressions_in timer.calendar) (limit_if has_more) notes)
@@ -52,15 +55,15 @@ pub record AreFirstNotes (at : Clocked) (timer : LoadedTimer) (has_more : Bool) 
   pub few : length notes ≤ max_notes
   pub sorted : IsSorted by_local notes
 
--- The report of a timer: its files, its expressions and exceptions, its other settings, these warnings, its last elapse
--- up to the present, its first `count` elapses after the present, and the local times that the next clock changes skip
--- or repeat.
-pub record IsShownTimer (at : Clocked) (count : ℕ) (warnings : List (List ℕ)) (timer : LoadedTimer) (view : TimerView) : Type 0 where
+-- The report of a timer: its files, its expressions and exceptions, the note about its exceptions and its other
+-- settings, these warnings, its last elapse up to the present, its first `count` elapses after the present, and the
+-- local times that the next clock changes skip or repeat. systemd ignores the exceptions of the `unguarded` timers.
+pub record IsShownTimer (at : Clocked) (count : ℕ) (warnings : List (List ℕ)) (unguarded : List UnguardedView) (timer : LoadedTimer) (view : TimerView) : Type 0 where
   pub unit : view.unit ≡ string_bytes timer.name
   pub files : view.files ≡ map (λ file. string_bytes file.path) timer.files.texts.items
   pub expressions : AllZip (IsShownLine timer) (expressions_in timer.calendar) view.expressions
   pub exceptions : AllZip (IsShownLine timer) (exceptions_in timer.calendar) view.exceptions
-  pub notes : view.notes ≡ map string_bytes timer.notes.items
+  pub notes : view.notes ≡ exceptions_note unguarded timer ++ map string_bytes timer.notes.items
   pub warned : view.warnings ≡ warnings
   pub last : IsLastOf at timer (timed_exceptions at timer) view.last
   pub elapses : view.elapses ≡ take count (elapses_in at at.now.secs timer)

@@ -12,7 +12,8 @@ use Rattle.cal_answers.proofs.reading.read_known.Goals as goal
 pub returns-clause-known : goal.returns-clause-known
 returns-clause-known g c = λ machine shows.
     let question = c.args.question.now in
-    let indexed = c.in_ok-loaded.ensures.grows machine shows in
+    let loaded = c.in_ok-unguarded.ensures.grows machine shows in
+    let indexed = c.in_ok-loaded.ensures.grows machine loaded in
     let ranged = c.in_ok-index.ensures.grows machine indexed in
     let named = c.in_ok-range.ensures.grows machine ranged in
     let searched = c.in_ok-named.ensures.grows machine named in
@@ -32,9 +33,10 @@ returns-clause-known g c = λ machine shows.
     (c.in_ok-index.ensures.whole (ap (needs_units question.verb) (ap (map (λ text. text.now)) c.as_slice-5.ensures.value ∙ texts) ∙ needed) machine indexed))
     c.in_ok-loaded.ensures.verb
     (λ folders is. subst (λ targets. AreLoadedOn machine folders targets c.in_ok-loaded.loaded)
-    (ap (map (λ text. text.now)) c.as_slice-6.ensures.value ∙ texts) (c.in_ok-loaded.ensures.known machine folders shows is))
-    (λ folders is. loaded_at Knows machine folders question.is_all (targets_of machine question) c.in_ok-loaded.loaded (shows, is)
+    (ap (map (λ text. text.now)) c.as_slice-6.ensures.value ∙ texts) (c.in_ok-loaded.ensures.known machine folders loaded is))
+    (λ folders is. loaded_at Knows machine folders question.is_all (targets_of machine question) c.in_ok-loaded.loaded (loaded, is)
     (subst (λ targets. AreAll Knows question.is_all targets c.in_ok-loaded.loaded) (ap (map (λ text. text.now)) c.as_slice-6.ensures.value ∙ texts) c.in_ok-loaded.ensures.whole))
+    (λ folders is. c.in_ok-unguarded.ensures.known machine folders shows is)
 
 pub returns-in_err-path-clause-fault : goal.returns-in_err-path-clause-fault
 returns-in_err-path-clause-fault g c =

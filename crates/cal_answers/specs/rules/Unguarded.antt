@@ -1,0 +1,91 @@
+-- The unguarded timers: timers with exceptions whose service doesn't run `calendar-timers due` as a condition, so that
+-- systemd ignores the exceptions (systemd.service(5), ExecCondition=).
+use Rattle.std.specs.Prelude.{ℕ, ◌-◌, ◌==◌, nat_eq, Bool, false, not, ◌&&◌, if◌then◌else◌, List, [], ◌∷◌, Option, None, Some, codes, filter, length, map, string_bytes, take}
+use Rattle.std.specs.List.{ends_with}
+use Rattle.std.specs.Option.{option_map}
+use Rattle.std.specs.Path.{rfind_below}
+use Rattle.cal_machine.specs.rules.Machine.{Machine}
+use Rattle.cal_machine.specs.rules.Places.{slash}
+use Rattle.cal_unit_index.specs.declared.files.UnitText.{UnitText}
+use Rattle.cal_unit_index.specs.rules.Files.{shown_unit_text}
+use Rattle.cal_load.specs.declared.loaded.LoadedTimer.{LoadedTimer}
+use Rattle.cal_load.specs.rules.Service.{asks_due_on}
+use Rattle.cal_load.specs.rules.StartedUnit.{started_unit_of}
+use Rattle.cal_tasks.specs.rules.Unguarded.{UnguardedView, entry_of, has_exceptions}
+use Rattle.cal_answers.specs.declared.found.LoadedByVerb.{LoadedByVerb}
+use Rattle.cal_answers.specs.declared.found.LoadedByVerb.TheVariants as loads
+use Rattle.cal_answers.specs.rules.LintUnits.{is_in_folders}
+
+-- ## Where a service is looked for
+
+-- the path before its last slash, or None if it has no slash
+abbrev pub before_slash : List ℕ → Option (List ℕ)
+before_slash path = option_map (λ index. take index path) (rfind_below slash path (length path))
+
+-- the root, if nothing is before the slash
+abbrev pub or_root : List ℕ → List ℕ
+or_root folder = if length folder == 0 then codes "/" else folder
+
+abbrev pub folder_if : Option (List ℕ) → List ℕ
+folder_if None = codes "."
+folder_if (Some folder) = or_root folder
+
+-- the folder that has the file at a path
+abbrev pub folder_of : List ℕ → List ℕ
+folder_of path = folder_if (before_slash path)
+
+-- the path of a timer's own file, the first of its files; None if this file is directly in a folder of the search path
+abbrev pub own_elsewhere : List (List ℕ) → List UnitText → Option (List ℕ)
+own_elsewhere path [] = None
+own_elsewhere path (own ∷ rest) = if is_in_folders path (own ∷ rest) then None else Some (string_bytes own.path)
+
+abbrev pub folders_by : List (List ℕ) → Option (List ℕ) → List (List ℕ)
+folders_by path None = path
+folders_by path (Some own) = folder_of own ∷ []
+
+-- The folders in which the service of a timer with these files is looked for: the search path if the timer's own file
+-- is directly in one of its folders, and otherwise the folder of this file.
+abbrev pub folders_for : List (List ℕ) → List UnitText → List (List ℕ)
+folders_for path files = folders_by path (own_elsewhere path files)
+
+-- ## Timers
+
+-- the stem of a service, or None if the unit isn't a service
+abbrev pub service_stem : List ℕ → Option (List ℕ)
+service_stem unit =
+    if ends_with nat_eq unit (codes ".service") then Some (take (length unit - length (codes ".service")) unit) else None
+
+-- whether the unit is a service that, by its files in these folders, doesn't run `calendar-timers due` as a condition
+abbrev pub is_silent : Machine → List (List ℕ) → Bool → Option (List ℕ) → Bool
+is_silent machine folders is_user None = false
+is_silent machine folders is_user (Some stem) = not (asks_due_on machine folders is_user stem)
+
+-- whether the unit that a timer starts is such a service (`is_silent`); the unit is None if it depends on the running
+-- system
+abbrev pub starts_silent : Machine → List (List ℕ) → Bool → Option (List ℕ) → Bool
+starts_silent machine folders is_user None = false
+starts_silent machine folders is_user (Some unit) = is_silent machine folders is_user (service_stem unit)
+
+-- whether the timer starts a service that doesn't ask
+abbrev pub starts_silent_service : Machine → List (List ℕ) → Bool → LoadedTimer → Bool
+starts_silent_service machine path is_user timer =
+    starts_silent machine (folders_for path timer.files.texts.items) is_user
+    (started_unit_of (string_bytes timer.name) (map shown_unit_text timer.files.texts.items))
+
+-- whether the timer is unguarded: it has exceptions, and its service doesn't run `calendar-timers due` as a condition
+unfoldable pub is_unguarded : Machine → List (List ℕ) → Bool → LoadedTimer → Bool
+is_unguarded machine path is_user timer = has_exceptions timer && starts_silent_service machine path is_user timer
+
+-- the unguarded timers among these
+abbrev pub unguarded_among : Machine → List (List ℕ) → Bool → List LoadedTimer → List UnguardedView
+unguarded_among machine path is_user timers = map entry_of (filter (is_unguarded machine path is_user) timers)
+
+-- the unguarded timers among those that were loaded for `list`, `show` or `lint`; none for the other verbs
+abbrev pub unguarded_on : Machine → List (List ℕ) → Bool → LoadedByVerb → List UnguardedView
+unguarded_on machine path is_user (loads.List timers) = unguarded_among machine path is_user timers.timers.items
+unguarded_on machine path is_user (loads.Show timers) = unguarded_among machine path is_user timers.timers.items
+unguarded_on machine path is_user (loads.Lint files timers) = unguarded_among machine path is_user timers.timers.items
+unguarded_on machine path is_user (loads.Between timers) = []
+unguarded_on machine path is_user (loads.Same first second) = []
+unguarded_on machine path is_user (loads.Next timers) = []
+unguarded_on machine path is_user (loads.Due timer) = []
