@@ -51,7 +51,7 @@ last_begun first_lines number index h =
     )
 
 -- if a line has a position, and its number in the file fits into 32 bits, then `place_of` returns this position
-at_position : (files : List UnitText) (first_lines : List ℕ) (number : ℕ) (path : List ℕ) (line : ℕ)
+pub at_position : (files : List UnitText) (first_lines : List ℕ) (number : ℕ) (path : List ℕ) (line : ℕ)
     → IsPosition files first_lines number path line → line < 2 ^ 32 → place_of files first_lines number ≡ Some (path, line)
 unfolding place_of
 at_position files first_lines number path line h fits =
@@ -75,7 +75,7 @@ in_no_file files first_lines number index (Some file) at last none =
     none (string_bytes file.path) line (record { index = index; file = file; is_at = at; has_path = refl; is_last = last; counted = counted }) in
     ap (λ b. if b then Some (string_bytes file.path, line) else None) (is_not_below line (2 ^ 32) far)
 
-at_no_position : (files : List UnitText) (first_lines : List ℕ) (number count : ℕ) → begun first_lines number ≡ count
+pub at_no_position : (files : List UnitText) (first_lines : List ℕ) (number count : ℕ) → begun first_lines number ≡ count
     → ((path : List ℕ) (line : ℕ) → IsPosition files first_lines number path line → 2 ^ 32 ≤ line)
     → place_at files first_lines number count ≡ None
 at_no_position files first_lines number zero h none = refl
