@@ -1,4 +1,4 @@
--- Lemmas on the difference of two timers: there is none exactly if their elapses are the same.
+-- Lemmas on the difference of two timers: it is empty if and only if their elapses are the same.
 use Rattle.std.proofs.Common.{◌≡◌, ◌↔◌, Bool, true, false, List, [], ◌∷◌, None, ℤ, map, refl, sym, subst, true≢false, ◌∙◌, slice_get}
 use Rattle.std.specs.List.Sorted.{IsStrictlySortedBy}
 use Rattle.std.specs.Ordering.{int_cmp, int_eq}
@@ -19,7 +19,7 @@ no_first : (xs : List ℤ) → slice_get xs 0 ≡ None → xs ≡ []
 no_first [] none = refl
 no_first (x ∷ xs) none = absurd (cc)
 
--- if no number is only in `xs`, all its numbers are in `ys`
+-- if no number is in `xs` but not in `ys`, all numbers of `xs` are in `ys`
 member_of : (xs ys : List ℤ) (i : ℤ) (there : Bool) → is_member int_eq ys i ≡ there → without xs ys ≡ [] → Has xs i → Has ys i
 member_of xs ys i true is none here = Has-is_member ys i is
 member_of xs ys i false is none here =
@@ -32,17 +32,18 @@ none_only : (xs ys : List ℤ) → xs ≡ ys → first_only_in xs ys ≡ None
 none_only xs ys same =
     first-none (without xs ys) (λ i there. ((Has-without xs ys i).0 there).1 (subst (λ (zs : List ℤ). Has zs i) same ((Has-without xs ys i).0 there).0))
 
-rising : (at : Clocked) (timer : LoadedTimer) → IsStrictlySortedBy int_cmp (elapses_in at at.now.secs timer)
+-- the elapses of a timer after a base are strictly increasing
+pub rising : (at : Clocked) (base : ℤ) (timer : LoadedTimer) → IsStrictlySortedBy int_cmp (elapses_in at base timer)
 unfolding elapses_of_lists
-rising at timer =
+rising at base timer =
     let lists = lists_of_loaded timer.calendar in
-    (AreElapses-elapses_except (map (timed_entry (setting_for at timer)) lists.expressions) (map (timed_entry (setting_for at timer)) lists.exceptions) at.now.secs).rises
+    (AreElapses-elapses_except (map (timed_entry (setting_for at timer)) lists.expressions) (map (timed_entry (setting_for at timer)) lists.exceptions) base).rises
 
 pub no_difference : (at : Clocked) (one other : LoadedTimer)
     → (((side_of at one other).only ≡ None) × ((side_of at other one).only ≡ None)) ↔ (elapses_in at at.now.secs one ≡ elapses_in at at.now.secs other)
 no_difference at one other =
     let xs = elapses_in at at.now.secs one in
     let ys = elapses_in at at.now.secs other in (
-      λ none. same_rising xs ys (rising at one) (rising at other) (λ i. (all_members xs ys none.0 i, all_members ys xs none.1 i)),
+      λ none. same_rising xs ys (rising at at.now.secs one) (rising at at.now.secs other) (λ i. (all_members xs ys none.0 i, all_members ys xs none.1 i)),
       λ same. (none_only xs ys same, none_only ys xs (sym same)),
     )

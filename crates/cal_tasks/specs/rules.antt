@@ -1,4 +1,5 @@
 -- What the manuals and this project's own rules say. The laws and the contracts of this crate cite these definitions.
+pub mod BetweenLaw
 pub mod BetweenReport
 pub mod ClockNotes
 pub mod Difference
@@ -12,6 +13,7 @@ pub mod LoadedElapses
 pub mod Notes
 pub mod SameReport
 pub mod SeveralTimers
+pub mod ShowLaw
 pub mod ShowReport
 pub mod Unguarded
 pub mod When

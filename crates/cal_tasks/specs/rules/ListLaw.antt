@@ -1,5 +1,5 @@
--- The row of each timer in the report of `list`, whatever the order of the rows is (systemd.timer(5), OnCalendar=).
-use Rattle.std.specs.Prelude.{ℕ, ℤ, List, [], ◌∷◌}
+-- The row of each timer in the report of `list`, and the order of the rows (systemd.timer(5), OnCalendar=).
+use Rattle.std.specs.Prelude.{ℕ, ℤ, Bool, false, true, int_lt, List, [], ◌∷◌, Option, None, Some}
 use Rattle.cal_load.specs.declared.loaded.Loaded.{Loaded}
 use Rattle.cal_load.specs.declared.loaded.LoadedTimer.{LoadedTimer}
 use Rattle.cal_timers_report.specs.rules.ReportView.{UnitView}
@@ -16,3 +16,9 @@ row_by loaded unguarded timer (secs ∷ later) = elapsing_row loaded unguarded s
 -- the row of a timer: its first elapse after the present, if there is one, and its notes
 abbrev pub timer_row : Clocked → Loaded → List UnguardedView → LoadedTimer → UnitView
 timer_row at loaded unguarded timer = row_by loaded unguarded timer (elapses_in at at.now.secs timer)
+
+-- whether the first next elapse is before the second; any elapse is before none
+abbrev pub is_sooner : Option ℤ → Option ℤ → Bool
+is_sooner None other = false
+is_sooner (Some one) None = true
+is_sooner (Some one) (Some other) = int_lt one other
