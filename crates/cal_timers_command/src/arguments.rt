@@ -13,7 +13,7 @@ pub(crate) struct Argument {
     /// The name of an option, without the `--` before it. Users don't see the name of a positional argument.
     pub(crate) name: &'static str,
     pub(crate) form: ArgumentForm,
-    /// What the help calls the value. An option without a value has an empty text here.
+    /// What the help calls the value, or an empty text if the option has no value.
     pub(crate) value_name: &'static str,
     /// The text in the help. `clap` prints a line break for `{n}`.
     pub(crate) help: &'static str,
@@ -58,11 +58,11 @@ pub(crate) const IN: Argument = Argument {
     name: "in",
     form: ArgumentForm::Value,
     value_name: "ZONE",
-    help: "Show times in this zone{n}[default: that of --zone, TZ or the machine, in this order]",
+    help: "Show times in this zone [default: that of --zone or --utc,{n}of TZ or of the machine, in this order]",
 };
 
-/// `--utc` isn't described to `clap` as being in conflict with `--zone`: the contract of `clap` says which errors are
-/// possible only for commands whose arguments have no rules about each other.
+/// `clap` isn't told that `--utc` conflicts with `--zone`: the contract of `clap` says which errors are possible only
+/// for commands whose arguments have no rules about each other.
 pub(crate) const UTC: Argument = Argument {
     name: "utc",
     form: ArgumentForm::Flag,
