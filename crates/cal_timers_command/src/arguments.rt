@@ -61,8 +61,8 @@ pub(crate) const IN: Argument = Argument {
     help: "Show times in this zone [default: that of --zone or --utc,{n}of TZ or of the machine, in this order]",
 };
 
-/// `clap` isn't told that `--utc` conflicts with `--zone`: the contract of `clap` says which errors are possible only
-/// for commands whose arguments have no rules about each other.
+/// `values.rt` checks that `--utc` isn't given together with `--zone`. `clap` could do so, but then its contract
+/// wouldn't say which errors are possible: it says so only for commands whose arguments have no rules about each other.
 pub(crate) const UTC: Argument = Argument {
     name: "utc",
     form: ArgumentForm::Flag,

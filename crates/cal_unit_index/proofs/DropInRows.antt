@@ -119,8 +119,8 @@ rows =
       in_etc (codes "also.timer.d") (codes "x.conf") ∷ in_lib (codes "foo.timer.d") (codes "x.conf") ∷ in_lib (codes "also.timer.d") (codes "y.conf") ∷ [],
       ([], (codes "foo" ∷ codes "also" ∷ [], codes "/lib/foo.timer.d/x.conf" ∷ codes "/lib/also.timer.d/y.conf" ∷ [])),
     )
-    -- In the next three rows, a prefix of an instance's name applies as a template and as an instance, too. Both lose
-    -- to the prefix alone, and the template loses to the instance.
+    -- In the next three rows, a prefix of an instance's name also applies with `@` and with `@` and the instance. The
+    -- drop-ins of the plain prefix win over both, and those with the instance win over those with only `@`.
     ∷ (
       in_etc (codes "a-.timer.d") (codes "x.conf") ∷ in_etc (codes "a-@i.timer.d") (codes "x.conf") ∷ [],
       ([], (codes "a-b@i" ∷ [], codes "/etc/a-.timer.d/x.conf" ∷ [])),

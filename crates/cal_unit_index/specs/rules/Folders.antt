@@ -40,9 +40,9 @@ prefix_instances stem None = []
 prefix_instances stem (Some template) = flat_map (with_prefix stem) (prefixes_of stem)
 
 -- The stems whose drop-in folders apply to the unit with this stem. For an instance, first come, for each prefix that
--- ends with a dash, a template and an instance that begin with this prefix (`with_prefix`), the shortest first. Then
--- come the prefixes alone, the stem of the template, and the stem itself. For any other unit, these are the prefixes
--- alone and its stem.
+-- ends with a dash, a template and an instance that begin with this prefix (`with_prefix`), the shortest first. After
+-- them come these prefixes as they are, the stem of the template, and the stem itself. For any other unit, there are
+-- only its prefixes and its stem.
 unfoldable pub folder_stems : List ℕ → List (List ℕ)
 folder_stems stem =
     prefix_instances stem (template_of stem) ++ (prefixes_of stem ++ (option_to_list (template_of stem) ++ stem ∷ []))
