@@ -1,13 +1,9 @@
 -- Lemmas on the assignments that are noted for a timer.
-use Rattle.std.proofs.Common.{Option, Some, None, true≢false, ◌≡◌, ◌∙◌, ◌+◌, ◌<◌, ◌||◌, ◌&&◌, ℕ, Bool, Bor, true, false, List, [], ◌∷◌, ◌++◌, add-one, ap, cond, drop, drop-cons, get_or, length, map, not, refl, sym}
-use Rattle.std.proofs.lemmas.Bool.Decides.{same_from_decides}
+use Rattle.std.proofs.Common.{Option, Some, None, true≢false, ◌≡◌, ◌∙◌, ◌||◌, ◌&&◌, ℕ, Bool, true, false, List, [], ◌∷◌, ◌++◌, ap, cond, map, not, refl, sym}
 use Rattle.std.proofs.lemmas.List.{map-append}
 use Rattle.std.proofs.lemmas.List.Folds.{list_any-append}
-use Rattle.std.proofs.lemmas.Slice.Eq.{bytes_eq-Decides}
-use Rattle.std.specs.Bool.{Decides}
 use Rattle.std.specs.List.{list_any}
 use Rattle.std.specs.Prelude.{filter, if◌then◌else◌}
-use Rattle.std.specs.Str.{str_eq_ignore_ascii_case, str_to_ascii_lowercase}
 use Rattle.cal_read.specs.declared.section_assignments.OwnedAssignment.{OwnedAssignment}
 use Rattle.cal_read.specs.rules.SectionAssignments.{shown_owned_assignment}
 use Rattle.cal_timer.specs.rules.Assignments.{Assignment}

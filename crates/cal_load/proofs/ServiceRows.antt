@@ -1,5 +1,5 @@
 -- Examples that check the definitions of a service's conditions.
-use Rattle.std.proofs.Common.{◌≡◌, ℕ, Bool, true, false, List, [], ◌∷◌, codes, map, refl}
+use Rattle.std.proofs.Common.{◌≡◌, ℕ, true, false, List, [], ◌∷◌, codes, map, refl}
 use Rattle.cal_bytes.specs.rules.Separators.{words}
 use Rattle.cal_bytes.specs.rules.Trim.{trim_start_matches}
 use Rattle.cal_timer.specs.rules.Assignments.{Assignment}

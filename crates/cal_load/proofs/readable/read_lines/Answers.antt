@@ -1,4 +1,4 @@
-use Rattle.std.proofs.Common.{◌≡◌, ◌∙◌, map}
+use Rattle.std.proofs.Common.{◌∙◌}
 use Rattle.std.proofs.lemmas.Result.{IfOk-weaker}
 use Rattle.cal_load.proofs.ReadableLemmas.{timer_section_read}
 use Rattle.cal_load.proofs.readable.read_lines.Goals as goal
