@@ -2,7 +2,7 @@
 use Rattle.std.proofs.Common.{◌≡◌, ◌∙◌, ◌||◌, ◌&&◌, ℕ, All, Bool, List, Option, [], ◌∷◌, ◌++◌, None, Some, false, true, not, ap, append-nil, cond, filter, inl, inr, map, refl, string_bytes, subst, sym}
 use Rattle.std.proofs.lemmas.Bool.{false≢true}
 use Rattle.std.proofs.lemmas.List.Concat.{flat_map-append}
-use Rattle.std.proofs.lemmas.List.Elements.{All-cons, All-head, All-nil, All-tail, filter-append}
+use Rattle.std.proofs.lemmas.List.Elements.{All-cons, All-head, All-nil, All-tail, filter-append, filter_passes}
 use Rattle.std.proofs.lemmas.List.Folds.{list_any-append}
 use Rattle.std.proofs.lemmas.Slice.Eq.{bytes_eq-Decides}
 use Rattle.std.specs.FinMap.{empty}
@@ -27,7 +27,8 @@ use Rattle.cal_load.specs.declared.calendar.Calendar as calendars
 use Rattle.cal_load.specs.declared.zones.CalendarZones.{CalendarZones}
 use Rattle.cal_load.specs.declared.zones.UnusableZone.{UnusableZone}
 use Rattle.cal_load.specs.rules.Expressions.{names_zone}
-use Rattle.cal_load.specs.rules.Loaded.{AreTried, HasNames, IsCalendarBy, IsCalendarOf, IsStartedBy, IsTried, IsZoned, entries_of_files, exceptions_in, exceptions_of_files, expressions_in, expressions_of_files, is_loaded, timer_assignments, unclear_of_files, zone_names_in}
+use Rattle.cal_load.specs.rules.CalendarZones.{HasZonesFor, HasZonesNamedIn, exceptions_in, expressions_in}
+use Rattle.cal_load.specs.rules.Loaded.{AreTried, HasNames, IsCalendarBy, IsCalendarOf, IsStartedBy, IsTried, IsZoned, entries_of_files, exceptions_of_files, expressions_of_files, is_loaded, timer_assignments, unclear_of_files, zone_names_in}
 use Rattle.cal_load.specs.rules.Notes.{starts_unit}
 use Rattle.cal_load.specs.rules.TextFaults.{StartNothing}
 use Rattle.cal_load.specs.rules.UnusableZones.{AreUnusableLines, IsUnusableLine, IsUnusableZoneOf, NamesUnusableZone, has_zone, is_zone_in}
@@ -276,6 +277,38 @@ kept_has_names table expressions exceptions known name =
     ∙ flat_map-append (λ (entry : TimerLine Fields). option_to_list (name_in entry.expr.zone)) (filter (has_zone table) expressions) (filter (has_zone table) exceptions) in
     known_if (is_some (zone_named table name)) (is_utc_name name) (list_any (bytes_eq name) (zone_names_in (expressions ++ exceptions))) (known name) (utc_named table name)
     ∙ ap (λ b. is_utc_name name || b) (sym (kept_names table name (expressions ++ exceptions)) ∙ ap (list_any (bytes_eq name)) all)
+
+-- if the lines whose zone isn't in the table are removed from a calendar, the table has each zone that the calendar
+-- names
+pub zones_for_kept : (table : ZoneMap) (old new : calendars.Calendar) → expressions_in new ≡ filter (has_zone table) (expressions_in old)
+    → exceptions_in new ≡ filter (has_zone table) (exceptions_in old) → HasZonesFor table new
+zones_for_kept table old new expressions exceptions = (
+  subst (HasZonesNamedIn table) (sym expressions) (filter_passes (has_zone table) (expressions_in old)),
+  subst (HasZonesNamedIn table) (sym exceptions) (filter_passes (has_zone table) (exceptions_in old)),
+)
+
+or_second : (a b : Bool) → b ≡ true → (a || b) ≡ true
+or_second true b h = refl
+or_second false b h = h
+
+zone_if_named : (table : ZoneMap) (zone : Option (List ℕ)) → ((name : List ℕ) → list_any (bytes_eq name) (option_to_list zone) ≡ true → is_some (zone_named table name) ≡ true)
+    → is_zone_in table zone ≡ true
+zone_if_named table None h = refl
+zone_if_named table (Some name) h = h name (one_named name (Some name) refl)
+
+each_zone : (table : ZoneMap) (entries : List (TimerLine Fields))
+    → ((name : List ℕ) → list_any (bytes_eq name) (zone_names_in entries) ≡ true → is_some (zone_named table name) ≡ true)
+    → HasZonesNamedIn table entries
+each_zone table [] h = All-nil (λ entry. has_zone table entry ≡ true)
+each_zone table (entry ∷ entries) h =
+    let here = option_to_list (name_in entry.expr.zone) in
+    All-cons (λ entry. has_zone table entry ≡ true) entry entries
+    (zone_if_named table (name_in entry.expr.zone) (λ name named. h name (list_any-append (bytes_eq name) here (zone_names_in entries) ∙ or_first _ _ named)))
+    (each_zone table entries (λ name named. h name (list_any-append (bytes_eq name) here (zone_names_in entries) ∙ or_second _ _ named)))
+
+-- if the table has all zones that the entries name, it has the zone of each entry
+pub zone_of_each : (table : ZoneMap) (entries : List (TimerLine Fields)) → HasNames table (zone_names_in entries) → HasZonesNamedIn table entries
+zone_of_each table entries h = each_zone table entries (λ name named. h name ∙ or_second (is_utc_name name) _ named)
 
 -- if the lines whose zone isn't in the table are removed from a calendar, `IsZoned` holds
 pub zoned_calendar : (machine : Machine) (old new : calendars.Calendar) (tried found : CalendarZones) → found.zones ≡ tried.zones

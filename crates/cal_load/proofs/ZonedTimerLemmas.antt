@@ -15,7 +15,8 @@ use Rattle.cal_load.specs.declared.calendar.IgnoredLine.{IgnoredLine}
 use Rattle.cal_load.specs.declared.loaded.LoadedTimer.{LoadedTimer}
 use Rattle.cal_load.specs.declared.timer_files.TimerFiles.{TimerFiles}
 use Rattle.cal_load.specs.declared.zones.CalendarZones.{CalendarZones}
-use Rattle.cal_load.specs.rules.Loaded.{AreFilesOf, HasZones, IsCalendarBy, IsCalendarOf, IsStarted, IsStartedBy, IsTimerReadFrom, IsZoned, broken_of_files, broken_own, entries_of_files, expressions_in, ignored_of_files, noted_in_files, timer_assignments, unclear_of_files}
+use Rattle.cal_load.specs.rules.CalendarZones.{expressions_in}
+use Rattle.cal_load.specs.rules.Loaded.{AreFilesOf, HasZones, IsCalendarBy, IsCalendarOf, IsStarted, IsStartedBy, IsTimerReadFrom, IsZoned, broken_of_files, broken_own, entries_of_files, ignored_of_files, noted_in_files, timer_assignments, unclear_of_files}
 use Rattle.cal_load.specs.rules.Notes.{note_text, starts_unit}
 use Rattle.cal_load.specs.rules.Position.{AreFirstLines, HasLine}
 use Rattle.cal_load.specs.rules.TextFaults.{HasNothingToDo}

@@ -2,6 +2,7 @@
 pub mod AllFiles
 pub mod AllTargets
 pub mod AllUnits
+pub mod CalendarZones
 pub mod Expressions
 pub mod FileFaults
 pub mod IgnoredSettings

@@ -4,7 +4,8 @@ ghost use Rattle.std.specs.Prelude.{◌≡◌, ◌∷◌, ◌++◌, [], List, If
 ghost use Rattle.cal_timer.specs.rules.Assignments as assignments;
 ghost use Rattle.cal_timer.specs.rules.TimerView.{shown, shown_assignment};
 ghost use Rattle.cal_read.specs.rules.SectionAssignments.{shown_owned_assignment};
-ghost use Rattle.cal_load.specs.rules.Loaded.{AreReadFrom, entries_after, exceptions_in, expressions_in, ignored_more};
+ghost use Rattle.cal_load.specs.rules.CalendarZones.{exceptions_in, expressions_in};
+ghost use Rattle.cal_load.specs.rules.Loaded.{AreReadFrom, entries_after, ignored_more};
 ghost use Rattle.cal_load.specs.rules.UnusableZones.{has_zone};
 
 use crate::zones::retain_zoned;

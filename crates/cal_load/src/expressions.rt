@@ -5,6 +5,7 @@ ghost use Rattle.std.specs.Result.{IfErr};
 ghost use Rattle.cal_timer.specs.rules.TimerView.{shown};
 ghost use Rattle.cal_machine.specs.rules.Machine.{Machine};
 ghost use Rattle.cal_zone_files.specs.rules.ZoneFiles.{zone_path};
+ghost use Rattle.cal_load.specs.rules.Loaded.{HasNames, zone_names_in};
 ghost use Rattle.cal_load.specs.rules.Expressions.{AreOf, HasOneTimer, HasOnlyFault, HasOnlyZoneFault, IsMadeOf, IsParseError, IsTimerOf, IsTimerOrReason, first_with_zone};
 
 use crate::calendar::Calendar;
@@ -106,6 +107,7 @@ fn only_timer(
     lines: Vec<TimerLine>,
     zones: ZoneTable,
 ) -> Result<Loaded, AllocError>
+    requires { HasNames zones (zone_names_in (map shown lines.items)) }
     ensures known { IfOk result (λ loaded. All (IsTimerOf (map shown lines.items) zones) loaded.timers.items) }
     ensures single { IfOk result HasOneTimer }
     ensures masked { IfOk result (λ loaded. loaded.masked.items ≡ []) }

@@ -1,9 +1,8 @@
 //! What loading results in: timers, the names of what is masked, and errors.
 
-ghost use Rattle.std.specs.Prelude.{◌≡◌, ◌++◌, [], OnOk, map};
+ghost use Rattle.std.specs.Prelude.{◌≡◌, [], OnOk, map};
 ghost use Rattle.cal_timer.specs.rules.TimerView.{shown};
-ghost use Rattle.cal_load.specs.rules.Loaded.{exceptions_in, expressions_in};
-ghost use Rattle.cal_load.specs.rules.AllUnits.{IsPushed, is_disabled, shown_stems};
+ghost use Rattle.cal_load.specs.rules.CalendarZones.{HasZonesFor, exceptions_in, expressions_in};
 
 use crate::calendar::Calendar;
 use crate::fault::{TargetLoadFault, push_fault};
@@ -31,6 +30,7 @@ pub struct LoadedTimer {
     /// The expressions whose specifiers depend on more than the timer's name, and then the other settings that decide
     /// when the timer starts a unit, and which unit that is; each as `KEY=VALUE`, in the order of the files.
     pub notes: Vec<String>,
+    pub ghost zoned: { HasZonesFor zones calendar },
 }
 
 impl LoadedTimer {
@@ -73,6 +73,8 @@ pub(crate) enum LoadedTarget {
 }
 
 impl Loaded {
+    ghost use Rattle.cal_load.specs.rules.AllUnits.{IsPushed, is_disabled, shown_stems};
+
     pub(crate) fn new(alloc: Global) -> Loaded
         ensures timers { result.timers.items ≡ [] }
         ensures masked { result.masked.items ≡ [] }

@@ -9,6 +9,7 @@ ghost use Rattle.cal_zone_files.specs.rules.ZoneFiles.{HasZonesOf, zone_path};
 ghost use Rattle.cal_timer.specs.rules.TimerEntries.{TimerLine as Entry};
 ghost use Rattle.cal_timer.specs.rules.TimerView.{shown};
 ghost use Rattle.cal_machine.specs.rules.Machine.{Machine};
+ghost use Rattle.cal_load.specs.rules.CalendarZones.{HasZonesFor};
 ghost use Rattle.cal_load.specs.rules.Expressions.{names_zone};
 ghost use Rattle.cal_load.specs.rules.Loaded.{HasNames, IsTried, IsZoned, is_loaded, zone_names_in};
 ghost use Rattle.cal_load.specs.rules.TextFaults.{IsZonesError};
@@ -52,6 +53,7 @@ pub(crate) fn load_calendar_zones<T: Tree>(
 ) -> Result<CalendarZones, AllocError>
     ensures known { IfOk result (λ found. (machine : Machine) → T.shows tree.new machine
         → IsZoned machine calendar.old calendar.new found) }
+    ensures zoned { IfOk result (λ found. HasZonesFor found.zones calendar.new) }
     ensures grows { (machine : Machine) → T.shows tree.new machine → T.shows tree.old machine }
 {
     let mut found = CalendarZones {

@@ -10,7 +10,7 @@ use Rattle.cal_bytes.proofs.General.{list-first}
 use Rattle.cal_elapse.proofs.ElapsesLemmas.{AreElapses-elapses_except}
 use Rattle.cal_elapse.specs.rules.Elapses.{IsElapse, IsElapseExcept, Timed}
 use Rattle.cal_load.specs.declared.loaded.LoadedTimer.{LoadedTimer}
-use Rattle.cal_load.specs.rules.Loaded.{expressions_in}
+use Rattle.cal_load.specs.rules.CalendarZones.{expressions_in}
 use Rattle.cal_plan.specs.rules.TimerElapses.{elapses_of_lists, timed_entry}
 use Rattle.cal_spec.specs.rules.Fields.{Fields}
 use Rattle.cal_timer.specs.rules.TimerEntries.{TimerLine}

@@ -24,7 +24,7 @@ pub struct ClockNote {
 
 impl ClockNote {
     ghost use Rattle.std.specs.Prelude.{◌≡◌, option_copied, slice_get};
-    ghost use Rattle.cal_load.specs.rules.Loaded.{expressions_in};
+    ghost use Rattle.cal_load.specs.rules.CalendarZones.{expressions_in};
     ghost use Rattle.cal_tasks.specs.rules.ShowReport.{zone_on};
 
     /// Returns the name of the zone on whose clock the local time is, as an expression of `timer` names it. Returns

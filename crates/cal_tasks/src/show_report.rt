@@ -2,7 +2,7 @@
 
 ghost use Rattle.std.specs.Prelude.{◌≡◌, ◌++◌, IfOk, map, string_bytes};
 ghost use Rattle.std.specs.List.{AllZip};
-ghost use Rattle.cal_load.specs.rules.Loaded.{expressions_in};
+ghost use Rattle.cal_load.specs.rules.CalendarZones.{expressions_in};
 ghost use Rattle.cal_timer.specs.rules.TimerView.{shown};
 ghost use Rattle.cal_timers_report.specs.rules.ReportView.{clock_time_seen, line_seen, place_seen, timer_seen};
 ghost use Rattle.cal_tasks.specs.rules.Notes.{exceptions_note};

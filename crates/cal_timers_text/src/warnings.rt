@@ -1,7 +1,7 @@
 //! Warnings of `show` and `next` about expressions that systemd may interpret differently or compute wrongly.
 
 ghost use Rattle.std.specs.Prelude.{◌≡◌, ◌++◌, IfOk, OnOk, map, option_copied, string_bytes};
-ghost use Rattle.cal_load.specs.rules.Loaded.{expressions_in};
+ghost use Rattle.cal_load.specs.rules.CalendarZones.{expressions_in};
 ghost use Rattle.cal_tasks.specs.rules.LoadedElapses.{setting_for};
 ghost use Rattle.cal_timer.specs.rules.TimerView.{shown};
 ghost use Rattle.cal_timers_text.specs.rules.Warnings.{abbreviation_warning, flaw_warnings, midnight_flaw, warnings_in, warnings_on, zone_warnings};

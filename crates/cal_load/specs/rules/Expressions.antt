@@ -13,7 +13,8 @@ use Rattle.cal_machine.specs.rules.Machine.{Machine}
 use Rattle.cal_zone.specs.rules.ZoneTable.{ZoneMap}
 use Rattle.cal_zone_files.specs.declared.fault.FileReason.{FileReason}
 use Rattle.cal_zone_files.specs.rules.ZoneFiles.{IsReasonOn, zone_path}
-use Rattle.cal_load.specs.rules.Loaded.{HasZones, exceptions_in, expressions_in}
+use Rattle.cal_load.specs.rules.CalendarZones.{exceptions_in, expressions_in}
+use Rattle.cal_load.specs.rules.Loaded.{HasZones}
 use Rattle.cal_load.specs.declared.fault.TargetLoadFault.{TargetLoadFault}
 use Rattle.cal_load.specs.declared.fault.TargetLoadFault as faults
 use Rattle.cal_load.specs.declared.loaded.Loaded.{Loaded}

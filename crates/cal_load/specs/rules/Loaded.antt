@@ -16,7 +16,6 @@ use Rattle.cal_spec.specs.rules.Fields.{Fields}
 use Rattle.cal_timer.specs.rules.Assignments.{Assignment}
 use Rattle.cal_timer.specs.rules.TimerText.{excepted, is_exception, is_expression, listed}
 use Rattle.cal_timer.specs.rules.TimerEntries.{TimerLine, entries_of}
-use Rattle.cal_timer.specs.rules.TimerView.{shown}
 use Rattle.cal_machine.specs.rules.Machine.{Machine}
 use Rattle.cal_unit_index.specs.declared.files.UnitText as texts
 use Rattle.cal_unit_index.specs.declared.unit_type.UnitType.TheVariants.{Timer}
@@ -31,6 +30,7 @@ use Rattle.cal_load.specs.declared.calendar.CalendarLines.{CalendarLines}
 use Rattle.cal_load.specs.declared.calendar.IgnoredLine.{IgnoredLine}
 use Rattle.cal_load.specs.declared.loaded.LoadedTimer.{LoadedTimer}
 use Rattle.cal_load.specs.declared.timer_files.TimerFiles.{TimerFiles}
+use Rattle.cal_load.specs.rules.CalendarZones.{exceptions_in, expressions_in}
 use Rattle.cal_load.specs.rules.Notes.{note_text, notes_in, starts_unit}
 use Rattle.cal_load.specs.rules.Position.{AreFirstLines, HasLine}
 use Rattle.cal_load.specs.rules.Readable.{assignments_read, broken_line}
@@ -96,12 +96,6 @@ timer_assignments name files = resolved_in name (assignments_of_files files)
 -- the expressions of the timer `name` that depend on more than this name
 abbrev pub unclear_of_files : List ℕ → List UnitText → List Assignment
 unclear_of_files name files = unclear_in name (assignments_of_files files)
-
-abbrev pub expressions_in : calendars.Calendar → List (TimerLine Fields)
-expressions_in calendar = map shown calendar.lines.items
-
-abbrev pub exceptions_in : calendars.Calendar → List (TimerLine Fields)
-exceptions_in calendar = map shown calendar.exceptions.items
 
 -- the expressions of the timer `name` that are valid and aren't cleared later
 abbrev pub expressions_of_files : List ℕ → List UnitText → List (TimerLine Fields)

@@ -3,7 +3,7 @@
 use Rattle.std.specs.Prelude.{ℤ, ◌≤ℤ◌, List, Option, None, Some, map}
 use Rattle.cal_elapse.specs.rules.Elapses.{IsElapseExcept, Timed}
 use Rattle.cal_load.specs.declared.loaded.LoadedTimer.{LoadedTimer}
-use Rattle.cal_load.specs.rules.Loaded.{exceptions_in, expressions_in}
+use Rattle.cal_load.specs.rules.CalendarZones.{exceptions_in, expressions_in}
 use Rattle.cal_plan.specs.rules.TimerElapses.{timed_entry}
 use Rattle.cal_spec.specs.rules.Fields.{Fields}
 use Rattle.cal_timer.specs.rules.TimerEntries.{TimerLine}

@@ -5,7 +5,7 @@ use Rattle.cal_load.specs.declared.loaded.Loaded.{Loaded}
 use Rattle.cal_load.specs.declared.loaded.LoadedTimer.{LoadedTimer}
 use Rattle.cal_load.specs.declared.target_fault.TargetFault.{TargetFault}
 use Rattle.cal_load.specs.rules.AllUnits.{is_disabled, shown_stems}
-use Rattle.cal_load.specs.rules.Loaded.{expressions_in}
+use Rattle.cal_load.specs.rules.CalendarZones.{expressions_in}
 use Rattle.cal_load.specs.rules.TextFaults.{fails_to_load}
 use Rattle.cal_timers_report.specs.rules.ReportView.{UnitView}
 use Rattle.cal_tasks.specs.declared.clocked.Clocked.{Clocked}

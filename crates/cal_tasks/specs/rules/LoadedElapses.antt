@@ -4,7 +4,7 @@ use Rattle.std.specs.Option.{option_or}
 use Rattle.cal_zone.specs.rules.Setting.{Setting}
 use Rattle.cal_zone.specs.rules.Zone.{zone_of}
 use Rattle.cal_zone.specs.rules.ZoneTable.{zone_named}
-use Rattle.cal_load.specs.rules.Loaded.{exceptions_in, expressions_in}
+use Rattle.cal_load.specs.rules.CalendarZones.{exceptions_in, expressions_in}
 use Rattle.cal_load.specs.declared.calendar.Calendar.{Calendar}
 use Rattle.cal_load.specs.declared.loaded.LoadedTimer.{LoadedTimer}
 use Rattle.cal_spec.specs.rules.Fields.{Fields}

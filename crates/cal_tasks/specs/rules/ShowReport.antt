@@ -3,7 +3,7 @@ use Rattle.std.specs.Prelude.{◌≡◌, ◌≤◌, ◌^◌, ◌++◌, ℕ, Bool
 use Rattle.std.specs.List.{All, AllZip}
 use Rattle.cal_load.specs.declared.loaded.LoadedTimer.{LoadedTimer}
 use Rattle.cal_load.specs.declared.timer_files.TimerFiles.{TimerFiles}
-use Rattle.cal_load.specs.rules.Loaded.{exceptions_in, expressions_in}
+use Rattle.cal_load.specs.rules.CalendarZones.{exceptions_in, expressions_in}
 use Rattle.cal_load.specs.rules.Position.{IsPosition}
 use Rattle.cal_spec.specs.rules.ExprText.{expr_text}
 use Rattle.cal_spec.specs.rules.Fields.{Fields}

@@ -5,7 +5,7 @@ use Rattle.std.specs.List.{list_any}
 use Rattle.std.specs.Option.{option_map, unwrap_or}
 use Rattle.std.specs.Str.{bytes_eq}
 use Rattle.cal_load.specs.declared.loaded.LoadedTimer.{LoadedTimer}
-use Rattle.cal_load.specs.rules.Loaded.{exceptions_in}
+use Rattle.cal_load.specs.rules.CalendarZones.{exceptions_in}
 use Rattle.cal_tasks.specs.declared.unguarded.UnguardedTimer.{UnguardedTimer}
 
 -- a timer with exceptions that systemd ignores: its name, and the path of its own file

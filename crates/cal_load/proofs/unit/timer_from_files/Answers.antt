@@ -1,7 +1,7 @@
 use Rattle.std.proofs.Common.{◌≡◌, ◌∙◌, [], Err, false, map, refl, rules, subst, sym}
 use Rattle.std.proofs.lemmas.Bool.{both_ways}
 use Rattle.cal_unit_index.specs.rules.Files.{shown_unit_text}
-use Rattle.cal_load.specs.rules.Loaded.{expressions_in}
+use Rattle.cal_load.specs.rules.CalendarZones.{expressions_in}
 use Rattle.cal_load.specs.rules.TextFaults.{IsTextFault}
 use Rattle.cal_load.proofs.ZonedTimerLemmas.{none_shown, some_shown, timer_read, unstarted_text}
 use Rattle.cal_load.proofs.unit.timer_from_files.Goals as goal

@@ -1,6 +1,6 @@
 use Rattle.std.proofs.Common.{◌∙◌, map, sym}
 use Rattle.std.proofs.lemmas.Bool.{false≢true}
-use Rattle.cal_load.specs.rules.Loaded.{exceptions_in}
+use Rattle.cal_load.specs.rules.CalendarZones.{exceptions_in}
 use Rattle.cal_timer.specs.rules.TimerView.{shown}
 use Rattle.cal_zone.specs.rules.Setting.{setting_seen}
 use Rattle.cal_tasks.proofs.LastElapseLemmas.{any_here}

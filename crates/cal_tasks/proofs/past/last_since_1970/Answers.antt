@@ -1,6 +1,6 @@
 use Rattle.std.proofs.Common.{◌≡◌, map, pos, sym, ◌∙◌}
 use Rattle.std.proofs.lemmas.Bool.{false≢true}
-use Rattle.cal_load.specs.rules.Loaded.{expressions_in}
+use Rattle.cal_load.specs.rules.CalendarZones.{expressions_in}
 use Rattle.cal_timer.specs.rules.TimerView.{shown}
 use Rattle.cal_zone.specs.rules.Setting.{setting_seen}
 use Rattle.cal_tasks.proofs.LastElapseLemmas.{elapses_here, last_at_first, none_at_first}

@@ -1,5 +1,5 @@
 use Rattle.std.proofs.Common.{◌≡◌, map, take}
-use Rattle.cal_load.specs.rules.Loaded.{expressions_in}
+use Rattle.cal_load.specs.rules.CalendarZones.{expressions_in}
 use Rattle.cal_timers_report.specs.rules.ReportView.{clock_time_seen}
 use Rattle.cal_tasks.specs.rules.ShowReport.{clock_time}
 use Rattle.cal_tasks.proofs.show_report.clock_times.Given as goal

@@ -1,6 +1,6 @@
 use Rattle.std.proofs.Common.{ap, map, option_map, refl, subst, ◌∙◌}
 use Rattle.std.specs.List.{AllZip}
-use Rattle.cal_load.specs.rules.Loaded.{expressions_in}
+use Rattle.cal_load.specs.rules.CalendarZones.{expressions_in}
 use Rattle.cal_timers_report.specs.rules.ReportView.{line_seen}
 use Rattle.cal_zone.specs.declared.instant.Instant.{Instant}
 use Rattle.cal_tasks.specs.rules.LastElapse.{IsLastOf, timed_lines}
