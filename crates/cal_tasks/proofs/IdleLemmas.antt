@@ -1,5 +1,5 @@
 -- Lemmas about collecting the lines that have no effect, one by one.
-use Rattle.std.proofs.Common.{◌≡◌, ℕ, ◌+◌, ◌<◌, ◌++◌, Bool, true, false, cond, List, [], ◌∷◌, ℤ, None, length, map, take, get_or, refl, sym, ap, ◌∙◌, append_assoc}
+use Rattle.std.proofs.Common.{◌≡◌, ℕ, ◌+◌, ◌<◌, ◌++◌, Bool, true, false, cond, List, [], ◌∷◌, ℤ, length, map, take, get_or, refl, sym, ap, ◌∙◌, append_assoc}
 use Rattle.std.specs.Prelude.{filter}
 use Rattle.std.proofs.lemmas.List.{map-append}
 use Rattle.std.proofs.lemmas.List.Elements.{filter-append}
@@ -8,8 +8,7 @@ use Rattle.cal_timer.specs.rules.TimerEntries.{TimerLine, Timer}
 use Rattle.cal_timer.specs.rules.TimerView.{shown}
 use Rattle.cal_timer.specs.declared.timer.TimerLine as declared_line
 use Rattle.cal_zone.specs.rules.Setting.{Setting}
-use Rattle.cal_plan.proofs.PlanLemmas.{all_zoned, shown_more}
-use Rattle.cal_plan.specs.rules.ZoneFor.{first_unzoned, unzoned}
+use Rattle.cal_plan.proofs.PlanLemmas.{shown_more}
 use Rattle.cal_tasks.specs.rules.IdleLines.{idle_as, idle_line, idle_lines}
 use Rattle.cal_tasks.specs.declared.idle.IdleKind.{IdleKind}
 use Rattle.cal_tasks.specs.declared.idle.IdleLine.{IdleLine}
@@ -39,14 +38,6 @@ idle_more kind test lines i line old found new idle h is was passes now =
     ∙ ap (λ (xs : List IdleLine). xs ++ cond idle (idle_line kind (shown line) ∷ []) []) was
     ∙ append_assoc old (idle_as kind test before) (cond idle (idle_line kind (shown line) ∷ []) [])
     ∙ ap (λ (xs : List IdleLine). old ++ xs) (sym more)
-
-pub lines_zoned : (at here : Setting) (lists : Timer Fields) (lines : List (TimerLine Fields)) → unzoned at lists ≡ None → here ≡ at → lines ≡ lists.expressions
-    → first_unzoned here lines ≡ None
-lines_zoned at here lists lines none same is = ap (first_unzoned here) is ∙ ap (λ (s : Setting). first_unzoned s lists.expressions) same ∙ (all_zoned at lists none).0
-
-pub exceptions_zoned : (at here : Setting) (lists : Timer Fields) (lines : List (TimerLine Fields)) → unzoned at lists ≡ None → here ≡ at → lines ≡ lists.exceptions
-    → first_unzoned here lines ≡ None
-exceptions_zoned at here lists lines none same is = ap (first_unzoned here) is ∙ ap (λ (s : Setting). first_unzoned s lists.exceptions) same ∙ (all_zoned at lists none).1
 
 pub idle_here : (at here : Setting) (base now : ℤ) (lists : Timer Fields) (es xs : List (TimerLine Fields)) (found : List IdleLine) → here ≡ at → now ≡ base → es ≡ lists.expressions
     → xs ≡ lists.exceptions → found ≡ idle_lines here now (record { expressions = es; exceptions = xs }) → found ≡ idle_lines at base lists

@@ -16,3 +16,4 @@ pub mod SameLemmas
 pub mod ShowLemmas
 pub mod TakeLemmas
 pub mod ZoneChangeLemmas
+pub mod ZonedLemmas

@@ -24,7 +24,7 @@ use cal_plan::zone_for;
 use cal_timer::TimerLine;
 use cal_zone::{Instant, PlaceCache, Setting, Zone};
 
-/// Returns whether a timer elapses at `instant`. A zone that wasn't loaded counts as UTC.
+/// Returns whether a timer elapses at `instant`.
 ///
 /// Elapses are computed after a base, and no instant is before instant 0, so only this test finds an elapse at
 /// instant 0.

@@ -1,39 +1,30 @@
 //! The report of `between`: the elapses of several timers in a range, with the names of the timers.
 
-ghost use Rattle.std.specs.Prelude.{◌≡◌, ◌≢◌, ◌++◌, IfErr, IfOk, OnOk, map, option_copied, slice_get};
-ghost use Rattle.cal_plan.specs.rules.ZoneFor.{IsUnzoned};
-ghost use Rattle.cal_plan.specs.declared.plan_fault.PlanFault.TheVariants.{NoMemory};
+ghost use Rattle.std.specs.Prelude.{◌≡◌, ◌++◌, IfOk, OnOk, map, option_copied, slice_get};
 ghost use Rattle.cal_timers_report.specs.rules.ReportView as view;
 ghost use Rattle.cal_tasks.specs.rules.BetweenReport.{AreBetween, named, named_at};
-ghost use Rattle.cal_tasks.specs.rules.LoadedElapses.{first_unzoned_line};
 
 use crate::clocked::Clocked;
 use crate::several::elapses_between;
 use crate::timer_elapse::TimerElapse;
 use cal_load::LoadedTimer;
-use cal_plan::PlanFault;
 use cal_timers_report::UnitElapse;
 use cal_zone::Instant;
 use std::alloc::{AllocError, Global};
 
 /// Returns all elapses of the timers that are at or after `from` and before `before`, in increasing order, each with
-/// the name of its timer. Elapses at the same instant are in the order of their timers.
-///
-/// Fails with [`PlanFault::NoSuchZone`] if an expression or an exception of a timer names a zone that wasn't loaded for
-/// this timer, and with [`PlanFault::NoMemory`] if allocation fails.
+/// the name of its timer. Elapses at the same instant are in the order of their timers. Fails only if allocation fails.
 pub fn between_rows<'a>(
     alloc: Global,
     at: Clocked<'_>,
     from: Instant,
     before: Instant,
     timers: &'a [LoadedTimer],
-) -> Result<Vec<UnitElapse<'a>>, PlanFault>
-    ensures rows { IfOk result (λ rows. AreBetween at.entry from.secs before.secs timers.now (map view.elapse_seen rows.items)) }
-    ensures fault { IfErr result (λ fault. fault ≢ NoMemory
-        → IsUnzoned (first_unzoned_line at.entry timers.now) fault) }
+) -> Result<Vec<UnitElapse<'a>>, AllocError>
+    ensures { IfOk result (λ rows. AreBetween at.entry from.secs before.secs timers.now (map view.elapse_seen rows.items)) }
 {
     let elapses = elapses_between(alloc, at, from, before, timers)?;
-    Ok(with_names(alloc, timers, elapses.as_slice())?)
+    with_names(alloc, timers, elapses.as_slice())
 }
 
 /// Returns the elapses with the names of their timers.

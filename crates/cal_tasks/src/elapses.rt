@@ -1,56 +1,53 @@
 //! The elapses of one timer (systemd.timer(5), OnCalendar=).
 
-ghost use Rattle.std.specs.Prelude.{◌≡◌, ◌≢◌, None, IfOk, MatchResult, map, take};
+ghost use Rattle.std.specs.Prelude.{◌≡◌, IfOk, map, take};
 ghost use Rattle.cal_zone.specs.rules.Setting.{setting_seen};
-ghost use Rattle.cal_plan.specs.rules.ZoneFor.{IsUnzoned};
-ghost use Rattle.cal_plan.specs.declared.plan_fault.PlanFault.TheVariants.{NoMemory};
-ghost use Rattle.cal_tasks.specs.rules.LoadedElapses.{elapses_in, setting_for, unzoned_line};
+ghost use Rattle.cal_tasks.specs.rules.LoadedElapses.{elapses_in, setting_for};
 
 use crate::clocked::Clocked;
 use cal_elapse::Elapses;
 use cal_load::LoadedTimer;
 use cal_plan::{Instants, PlanFault, merge_of};
-use cal_rising::{Merge, NoMemory as OutOfMemory, Rising};
+use cal_rising::{Merge, Rising};
 use cal_zone::{Instant, Setting};
-use std::alloc::Global;
+use std::alloc::{AllocError, Global};
 
-/// Returns the first `count` elapses of a timer after the present, or all of them if there are fewer.
-///
-/// Fails with [`PlanFault::NoSuchZone`] if an expression or an exception names a zone that wasn't loaded, and with
-/// [`PlanFault::NoMemory`] if allocation fails.
+/// Returns the first `count` elapses of a timer after the present, or all of them if there are fewer. Fails only if
+/// allocation fails.
 pub(crate) fn first_elapses(
     alloc: Global,
     at: Clocked<'_>,
     timer: &LoadedTimer,
     count: u32,
-) -> Result<Vec<Instant>, PlanFault>
-    ensures { MatchResult result
-        (λ elapses. map (λ instant. instant.secs) elapses.items ≡ take count (elapses_in at.entry at.entry.now.secs timer.now))
-        (λ fault. fault ≢ NoMemory → IsUnzoned (unzoned_line at.entry timer.now) fault) }
+) -> Result<Vec<Instant>, AllocError>
+    ensures { IfOk result (λ elapses. map (λ instant. instant.secs) elapses.items
+        ≡ take count (elapses_in at.entry at.entry.now.secs timer.now)) }
 {
     let mut elapses = elapses_in(alloc, at, at.now, timer)?;
-    Ok(take_first(alloc, &mut elapses, count)?)
+    take_first(alloc, &mut elapses, count)
 }
 
-/// Creates the iterator over the elapses of a timer after `base`. Fails like [`first_elapses`].
+/// Creates the iterator over the elapses of a timer after `base`. Fails only if allocation fails.
 pub(crate) fn elapses_in<'a>(
     alloc: Global,
     at: Clocked<'a>,
     base: Instant,
     timer: &'a LoadedTimer,
-) -> Result<Instants<Merge<Elapses<'a>>>, PlanFault>
-    ensures { MatchResult result
-        (λ elapses. (unzoned_line at.entry timer.now ≡ None) × (elapses ≡ elapses_in at.entry base.secs timer.now))
-        (λ fault. fault ≢ NoMemory → IsUnzoned (unzoned_line at.entry timer.now) fault) }
+) -> Result<Instants<Merge<Elapses<'a>>>, AllocError>
+    ensures { IfOk result (λ elapses. elapses ≡ elapses_in at.entry base.secs timer.now) }
 {
-    let merge = merge_of(
+    match merge_of(
         alloc,
         setting_for(at, timer),
         base,
         timer.lines(),
         timer.exceptions(),
-    )?;
-    Ok(Instants::new(merge))
+    ) {
+        Ok(merge) => Ok(Instants::new(merge)),
+        Err(PlanFault::NoMemory) => Err(AllocError),
+        // A loaded timer has every zone that it names.
+        Err(PlanFault::NoSuchZone(_)) => unreachable!(),
+    }
 }
 
 /// Returns the [`Setting`] of a timer: the present, the local zone, and the zones that were loaded for the timer.
@@ -70,7 +67,7 @@ pub(crate) fn take_first<S: Rising>(
     alloc: Global,
     source: &mut Instants<S>,
     count: u32,
-) -> Result<Vec<Instant>, OutOfMemory>
+) -> Result<Vec<Instant>, AllocError>
     ensures { IfOk result (λ first. map (λ instant. instant.secs) first.items ≡ take count source.old) }
 {
     let mut first = Vec::new(alloc);

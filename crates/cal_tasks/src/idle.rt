@@ -1,26 +1,25 @@
 //! Expressions that don't elapse any more, or for which systemd 252 fails at a midnight that clocks skip, and
 //! exceptions that suppress none of the next elapses (systemd.timer(5), OnCalendar=).
 
-ghost use Rattle.std.specs.Prelude.{◌≡◌, ◌≢◌, ◌++◌, [], ◌∷◌, None, IfOk, MatchResult, OnOk, cond, false, map};
+ghost use Rattle.std.specs.Prelude.{◌≡◌, ◌++◌, [], ◌∷◌, None, IfOk, OnOk, cond, false, map};
 ghost use Rattle.std.specs.List.{list_any};
 ghost use Rattle.std.specs.Ordering.{int_eq};
 ghost use Rattle.std.specs.Set.{is_member};
 ghost use Rattle.cal_zone.specs.rules.Setting.{setting_seen};
 ghost use Rattle.cal_elapse.specs.computed.RemainingElapses.{remaining_elapses};
 ghost use Rattle.cal_timer.specs.rules.TimerView.{shown};
-ghost use Rattle.cal_plan.specs.rules.ZoneFor.{IsUnzoned, first_unzoned, lacks_zone};
+ghost use Rattle.cal_plan.specs.rules.ZoneFor.{first_unzoned, lacks_zone};
 ghost use Rattle.cal_plan.specs.rules.TimerElapses.{lists_shown};
-ghost use Rattle.cal_plan.specs.declared.plan_fault.PlanFault.TheVariants.{NoMemory};
 ghost use Rattle.cal_tasks.specs.rules.IdleLines.{elapses_of_line, idle_as, idle_lines, never_elapses, next_elapses, suppresses_nothing};
-ghost use Rattle.cal_tasks.specs.rules.LoadedElapses.{lists_of_loaded, setting_for, unzoned_line};
+ghost use Rattle.cal_tasks.specs.rules.LoadedElapses.{lists_of_loaded, setting_for};
 ghost use Rattle.cal_tasks.specs.rules.Midnight.{stops_at_midnight};
 
 use crate::clocked::Clocked;
-use crate::elapses::{elapses_in, setting_for, take_first};
+use crate::elapses::{setting_for, take_first};
 use crate::midnight::stops_in;
 use cal_elapse::Elapses;
 use cal_load::LoadedTimer;
-use cal_plan::{Instants, PlanFault, merge_of, zone_for};
+use cal_plan::{Instants, merge_of, zone_for};
 use cal_rising::Rising;
 use cal_timer::TimerLine;
 use cal_zone::{Instant, Setting};
@@ -52,22 +51,15 @@ pub struct IdleLine {
 /// Returns the lines of a timer that have no effect, or for which systemd 252 fails: first the expressions that don't
 /// elapse after the present, then those for which systemd 252 fails at a midnight that clocks skip, and then the
 /// exceptions that suppress nothing. For an exception, only the next 10,000 elapses that the timer would have without
-/// its exceptions are checked.
-///
-/// Fails with [`PlanFault::NoSuchZone`] if an expression or an exception names a zone that wasn't loaded, and with
-/// [`PlanFault::NoMemory`] if allocation fails.
+/// its exceptions are checked. Fails only if allocation fails.
 pub fn idle_lines(
     alloc: Global,
     at: Clocked<'_>,
     timer: &LoadedTimer,
-) -> Result<Vec<IdleLine>, PlanFault>
-    ensures { MatchResult result
-        (λ found. found.items
-        ≡ idle_lines (setting_for at.entry timer.now) at.entry.now.secs (lists_of_loaded timer.now.calendar))
-        (λ fault. fault ≢ NoMemory → IsUnzoned (unzoned_line at.entry timer.now) fault) }
+) -> Result<Vec<IdleLine>, AllocError>
+    ensures { IfOk result (λ found. found.items
+        ≡ idle_lines (setting_for at.entry timer.now) at.entry.now.secs (lists_of_loaded timer.now.calendar)) }
 {
-    // This fails if a zone is missing. The iterator itself isn't used.
-    let _ = elapses_in(alloc, at, at.now, timer)?;
     let setting = setting_for(at, timer);
     let found = idle_among(alloc, setting, timer.lines(), timer.exceptions())?;
     Ok(found)

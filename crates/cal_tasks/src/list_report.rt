@@ -1,11 +1,8 @@
 //! The report of `list`: for each unit a row with its name, its next elapse and its notes.
 
-ghost use Rattle.std.specs.Prelude.{◌≡◌, ◌≢◌, ◌++◌, IfErr, IfOk, OnOk, codes, false, map, option_copied, slice_get, string_bytes, true};
-ghost use Rattle.cal_plan.specs.rules.ZoneFor.{IsUnzoned};
-ghost use Rattle.cal_plan.specs.declared.plan_fault.PlanFault.TheVariants.{NoMemory};
+ghost use Rattle.std.specs.Prelude.{◌≡◌, ◌++◌, IfOk, OnOk, codes, false, map, option_copied, slice_get, string_bytes, true};
 ghost use Rattle.cal_timers_report.specs.rules.ReportView.{unit_seen};
 ghost use Rattle.cal_tasks.specs.rules.ListReport.{IsListOf, elapsing_row, elapsing_rows, ended_row, ended_rows, failed_rows, list_notes, masked_rows, noted_row, row_if};
-ghost use Rattle.cal_tasks.specs.rules.LoadedElapses.{first_unzoned_line};
 ghost use Rattle.cal_tasks.specs.rules.Unguarded.{unguarded_seen};
 
 use crate::clocked::Clocked;
@@ -14,7 +11,6 @@ use crate::several::next_of_timers;
 use crate::timer_elapse::TimerElapse;
 use crate::unguarded::UnguardedTimer;
 use cal_load::{Loaded, LoadedTimer, TargetFault};
-use cal_plan::PlanFault;
 use cal_timers_report::ListRow;
 use cal_zone::Instant;
 use std::alloc::{AllocError, Global};
@@ -26,18 +22,15 @@ use std::alloc::{AllocError, Global};
 /// more, `exceptions ignored by systemd` if it has exceptions and is one of the `unguarded` timers, and its other
 /// settings: those that decide when it starts a unit, and which unit that is.
 ///
-/// Fails with [`PlanFault::NoSuchZone`] if an expression or an exception of a timer names a zone that wasn't loaded for
-/// this timer, and with [`PlanFault::NoMemory`] if allocation fails.
+/// Fails only if allocation fails.
 pub fn list_rows<'a>(
     alloc: Global,
     at: Clocked<'_>,
     loaded: &'a Loaded,
     masked: &'a [String],
     unguarded: &[UnguardedTimer],
-) -> Result<Vec<ListRow<'a>>, PlanFault>
-    ensures rows { IfOk result (λ rows. IsListOf at.entry loaded.now (map string_bytes masked.now) (map unguarded_seen unguarded.now) (map unit_seen rows.items)) }
-    ensures fault { IfErr result (λ fault. fault ≢ NoMemory
-        → IsUnzoned (first_unzoned_line at.entry loaded.now.timers.items) fault) }
+) -> Result<Vec<ListRow<'a>>, AllocError>
+    ensures { IfOk result (λ rows. IsListOf at.entry loaded.now (map string_bytes masked.now) (map unguarded_seen unguarded.now) (map unit_seen rows.items)) }
 {
     let next = next_of_timers(alloc, at, loaded.timers.as_slice())?;
     let mut rows: Vec<ListRow<'a>> = Vec::new(alloc);

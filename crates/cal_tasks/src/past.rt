@@ -1,19 +1,21 @@
 //! The last elapse of a timer up to the present (systemd.timer(5), OnCalendar=).
 
-ghost use Rattle.std.specs.Prelude.{IfOk, map, option_map};
+ghost use Rattle.std.specs.Prelude.{◌≡◌, IfOk, None, map, option_map};
+ghost use Rattle.cal_plan.specs.rules.ZoneFor.{first_unzoned};
 ghost use Rattle.cal_timer.specs.rules.TimerView.{shown};
 ghost use Rattle.cal_tasks.specs.computed.LastSearch.{IsLastAfter, IsLastUntil};
 ghost use Rattle.cal_tasks.specs.rules.LastElapse.{IsLastOf, timed_lines};
+ghost use Rattle.cal_tasks.specs.rules.LoadedElapses.{setting_for};
 
 use crate::at_instant::elapses_at;
 use crate::clocked::Clocked;
 use crate::elapses::setting_for;
 use cal_load::LoadedTimer;
-use cal_plan::{Instants, merge_of};
-use cal_rising::{NoMemory, Rising};
+use cal_plan::{Instants, PlanFault, merge_of};
+use cal_rising::Rising;
 use cal_timer::TimerLine;
 use cal_zone::Instant;
-use std::alloc::Global;
+use std::alloc::{AllocError, Global};
 
 /// The lengths, in seconds, of the ranges up to the present in which the last elapse is searched for: first one hour,
 /// and then each time 8 times as long. If none of these ranges has an elapse, all instants since 1970 are searched.
@@ -30,13 +32,14 @@ const RANGES: [u32; 7] = [
 /// Returns the last instant, at or before the present, at which one of the timer's expressions elapses and none of
 /// these exceptions does. Returns `None` if there is no such instant.
 ///
-/// Fails if allocation fails, or if an expression or an exception names a zone that wasn't loaded.
+/// The timer must have every zone that these exceptions name. Fails only if allocation fails.
 pub(crate) fn last_elapse(
     alloc: Global,
     at: Clocked<'_>,
     timer: &LoadedTimer,
     exceptions: &[TimerLine],
-) -> Result<Option<Instant>, NoMemory>
+) -> Result<Option<Instant>, AllocError>
+    requires { first_unzoned (setting_for at timer.now) (map shown exceptions.now) ≡ None }
     ensures { IfOk result (λ last. IsLastOf at.entry timer.now (timed_lines at.entry timer.now (map shown exceptions.now))
         (option_map (λ instant. instant.secs) last)) }
 {
@@ -57,7 +60,8 @@ fn last_since_1970(
     at: Clocked<'_>,
     timer: &LoadedTimer,
     exceptions: &[TimerLine],
-) -> Result<Option<Instant>, NoMemory>
+) -> Result<Option<Instant>, AllocError>
+    requires { first_unzoned (setting_for at timer.now) (map shown exceptions.now) ≡ None }
     ensures { IfOk result (λ last. IsLastOf at.entry timer.now (timed_lines at.entry timer.now (map shown exceptions.now))
         (option_map (λ instant. instant.secs) last)) }
 {
@@ -81,20 +85,23 @@ fn last_after(
     timer: &LoadedTimer,
     exceptions: &[TimerLine],
     base: Instant,
-) -> Result<Option<Instant>, NoMemory>
+) -> Result<Option<Instant>, AllocError>
+    requires { first_unzoned (setting_for at timer.now) (map shown exceptions.now) ≡ None }
     ensures { IfOk result (λ last. IsLastAfter at.entry timer.now (timed_lines at.entry timer.now (map shown exceptions.now)) base.secs
         (option_map (λ instant. instant.secs) last)) }
 {
-    let Ok(merge) = merge_of(
+    match merge_of(
         alloc,
         setting_for(at, timer),
         base,
         timer.lines(),
         exceptions,
-    ) else {
-        return Err(NoMemory);
-    };
-    Ok(last_until(&mut Instants::new(merge), at.now))
+    ) {
+        Ok(merge) => Ok(last_until(&mut Instants::new(merge), at.now)),
+        Err(PlanFault::NoMemory) => Err(AllocError),
+        // A loaded timer has every zone that it names.
+        Err(PlanFault::NoSuchZone(_)) => unreachable!(),
+    }
 }
 
 /// Returns the last of the elapses that is at or before `until`.

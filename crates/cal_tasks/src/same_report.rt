@@ -1,19 +1,14 @@
 //! The report of `same`: the instants at which only one of two timers elapses, and the settings that only one has.
 
-ghost use Rattle.std.specs.Prelude.{◌≡◌, ◌≢◌, IfOk, MatchResult, map, string_bytes};
+ghost use Rattle.std.specs.Prelude.{◌≡◌, IfOk, map, string_bytes};
 ghost use Rattle.std.specs.List.{list_any};
-ghost use Rattle.std.specs.Option.{option_or};
 ghost use Rattle.std.specs.Str.{bytes_eq};
-ghost use Rattle.cal_plan.specs.rules.ZoneFor.{IsUnzoned};
-ghost use Rattle.cal_plan.specs.declared.plan_fault.PlanFault.TheVariants.{NoMemory};
 ghost use Rattle.cal_timers_report.specs.rules.ReportView.{comparison_seen};
-ghost use Rattle.cal_tasks.specs.rules.LoadedElapses.{unzoned_line};
 ghost use Rattle.cal_tasks.specs.rules.SameReport.{comparison_of, settings_only};
 
 use crate::clocked::Clocked;
 use crate::several::difference_of;
 use cal_load::LoadedTimer;
-use cal_plan::PlanFault;
 use cal_timers_report::{Comparison, Side};
 use std::alloc::{AllocError, Global};
 
@@ -23,18 +18,14 @@ use std::alloc::{AllocError, Global};
 /// `OnBootSec=60` and `OnBootSec=1min` differ.
 ///
 /// The call takes longest if the timers elapse at the same instants: then it computes all their elapses through 2199,
-/// once for each of the timers. Fails with [`PlanFault::NoSuchZone`] if an expression or an exception of a timer names
-/// a zone that wasn't loaded for this timer, and with [`PlanFault::NoMemory`] if allocation fails.
+/// once for each of the timers. Fails only if allocation fails.
 pub fn compare<'a>(
     alloc: Global,
     at: Clocked<'_>,
     one: &'a LoadedTimer,
     other: &'a LoadedTimer,
-) -> Result<Comparison<'a>, PlanFault>
-    ensures { MatchResult result
-        (λ found. comparison_seen found ≡ comparison_of at.entry one.now other.now)
-        (λ fault. fault ≢ NoMemory
-        → IsUnzoned (option_or (unzoned_line at.entry one.now) (unzoned_line at.entry other.now)) fault) }
+) -> Result<Comparison<'a>, AllocError>
+    ensures { IfOk result (λ found. comparison_seen found ≡ comparison_of at.entry one.now other.now) }
 {
     let difference = difference_of(alloc, at, one, other)?;
     let settings = settings_only(alloc, one, other)?;

@@ -1,13 +1,10 @@
 //! Several timers together: the next elapse of each, all elapses in a range, and how two timers differ
 //! (systemd.timer(5), OnCalendar=).
 
-ghost use Rattle.std.specs.Prelude.{◌≡◌, ◌≢◌, ◌-ℤ◌, pos, IfErr, IfOk, MatchResult, IsPermutation, IsSorted, map, option_map};
-ghost use Rattle.std.specs.Option.{option_or};
+ghost use Rattle.std.specs.Prelude.{◌≡◌, ◌-ℤ◌, pos, IfOk, IsPermutation, IsSorted, map, option_map};
 ghost use Rattle.cal_tasks.specs.rules.Difference.{IsDifference, first_only_in};
 ghost use Rattle.cal_tasks.specs.rules.SeveralTimers.{by_instant, elapse_seen, ended, next_of_each, range_of_each};
-ghost use Rattle.cal_plan.specs.rules.ZoneFor.{IsUnzoned};
-ghost use Rattle.cal_plan.specs.declared.plan_fault.PlanFault.TheVariants.{NoMemory};
-ghost use Rattle.cal_tasks.specs.rules.LoadedElapses.{elapses_in, first_unzoned_line, unzoned_line};
+ghost use Rattle.cal_tasks.specs.rules.LoadedElapses.{elapses_in};
 
 use crate::at_instant::is_elapse;
 use crate::clocked::Clocked;
@@ -19,49 +16,41 @@ use crate::range::add_range;
 use crate::timer_elapse::TimerElapse;
 use cal_elapse::Elapses;
 use cal_load::LoadedTimer;
-use cal_plan::{Instants, PlanFault};
+use cal_plan::Instants;
 use cal_rising::Merge;
 use cal_zone::Instant;
-use std::alloc::Global;
+use std::alloc::{AllocError, Global};
 
 /// Returns the next elapse of each timer after the present, soonest first, and the timers that don't elapse any more.
-///
-/// Fails with [`PlanFault::NoSuchZone`] if an expression or an exception of a timer names a zone that wasn't loaded for
-/// this timer, and with [`PlanFault::NoMemory`] if allocation fails.
+/// Fails only if allocation fails.
 pub(crate) fn next_of_timers(
     alloc: Global,
     at: Clocked<'_>,
     timers: &[LoadedTimer],
-) -> Result<NextOfAll, PlanFault>
+) -> Result<NextOfAll, AllocError>
     ensures sorted { IfOk result (λ next. IsSorted by_instant next.soonest.items) }
     ensures soonest { IfOk result (λ next.
         IsPermutation (next_of_each (map (elapses_in at.entry at.entry.now.secs) timers.now)) (map elapse_seen next.soonest.items)) }
     ensures never { IfOk result (λ next.
         next.never.items ≡ ended (map (elapses_in at.entry at.entry.now.secs) timers.now)) }
-    ensures fault { IfErr result (λ fault. fault ≢ NoMemory
-        → IsUnzoned (first_unzoned_line at.entry timers.now) fault) }
 {
     let mut elapses = elapses_of_timers(alloc, at, at.now, timers)?;
-    Ok(next_of_all(alloc, elapses.as_mut_slice())?)
+    next_of_all(alloc, elapses.as_mut_slice())
 }
 
 /// Returns all elapses of the timers that are at or after `from` and before `before`, in increasing order, each with
-/// the index of its timer. Elapses at the same instant are in the order of their timers.
-///
-/// Fails like [`next_of_timers`].
+/// the index of its timer. Elapses at the same instant are in the order of their timers. Fails only if allocation fails.
 pub(crate) fn elapses_between(
     alloc: Global,
     at: Clocked<'_>,
     from: Instant,
     before: Instant,
     timers: &[LoadedTimer],
-) -> Result<Vec<TimerElapse>, PlanFault>
+) -> Result<Vec<TimerElapse>, AllocError>
     ensures sorted { IfOk result (λ found. IsSorted by_instant found.items) }
     ensures all { IfOk result (λ found. IsPermutation
         (range_of_each from.secs before.secs (map (elapses_in at.entry (from.secs -ℤ pos 1)) timers.now))
         (map elapse_seen found.items)) }
-    ensures fault { IfErr result (λ fault. fault ≢ NoMemory
-        → IsUnzoned (first_unzoned_line at.entry timers.now) fault) }
 {
     let mut found = ranges_of_timers(alloc, at, from, before, timers)?;
     sort_elapses(&mut found);
@@ -72,23 +61,19 @@ pub(crate) fn elapses_between(
 /// other doesn't.
 ///
 /// The call computes elapses until it finds these instants. It takes longest if the timers elapse at the same instants:
-/// then it computes all their elapses through 2199, once for each field of the result. Fails like [`next_of_timers`].
+/// then it computes all their elapses through 2199, once for each field of the result. Fails only if allocation fails.
 pub(crate) fn difference_of(
     alloc: Global,
     at: Clocked<'_>,
     one: &LoadedTimer,
     other: &LoadedTimer,
-) -> Result<Difference, PlanFault>
-    ensures { MatchResult result
-        (IsDifference (elapses_in at.entry at.entry.now.secs one.now) (elapses_in at.entry at.entry.now.secs other.now))
-        (λ fault. fault ≢ NoMemory
-        → IsUnzoned (option_or (unzoned_line at.entry one.now) (unzoned_line at.entry other.now)) fault) }
+) -> Result<Difference, AllocError>
+    ensures { IfOk result (IsDifference
+        (elapses_in at.entry at.entry.now.secs one.now)
+        (elapses_in at.entry at.entry.now.secs other.now)) }
 {
     let only_one = first_only_of(alloc, at, one, other)?;
-    // The call above found the zones of both timers, so this one fails only if allocation fails.
-    let Ok(only_other) = first_only_of(alloc, at, other, one) else {
-        return Err(PlanFault::NoMemory);
-    };
+    let only_other = first_only_of(alloc, at, other, one)?;
     Ok(Difference {
         only_one,
         only_other,
@@ -102,17 +87,14 @@ fn first_only_of(
     at: Clocked<'_>,
     one: &LoadedTimer,
     other: &LoadedTimer,
-) -> Result<Option<Instant>, PlanFault>
-    ensures { MatchResult result
-        (λ first. option_map (λ instant. instant.secs) first ≡ first_only_in
+) -> Result<Option<Instant>, AllocError>
+    ensures { IfOk result (λ first. option_map (λ instant. instant.secs) first ≡ first_only_in
         (elapses_in at.entry at.entry.now.secs one.now)
-        (elapses_in at.entry at.entry.now.secs other.now))
-        (λ fault. fault ≢ NoMemory
-        → IsUnzoned (option_or (unzoned_line at.entry one.now) (unzoned_line at.entry other.now)) fault) }
+        (elapses_in at.entry at.entry.now.secs other.now)) }
 {
     let these = elapses_in(alloc, at, at.now, one)?;
     let those = elapses_in(alloc, at, at.now, other)?;
-    Ok(first_only(alloc, these, those)?)
+    first_only(alloc, these, those)
 }
 
 /// Creates one iterator for each timer, over the timer's elapses after `base`.
@@ -121,10 +103,8 @@ fn elapses_of_timers<'a>(
     at: Clocked<'a>,
     base: Instant,
     timers: &'a [LoadedTimer],
-) -> Result<Vec<Instants<Merge<Elapses<'a>>>>, PlanFault>
-    ensures { MatchResult result
-        (λ all. all.items ≡ map (elapses_in at.entry base.secs) timers.now)
-        (λ fault. fault ≢ NoMemory → IsUnzoned (first_unzoned_line at.entry timers.now) fault) }
+) -> Result<Vec<Instants<Merge<Elapses<'a>>>>, AllocError>
+    ensures { IfOk result (λ all. all.items ≡ map (elapses_in at.entry base.secs) timers.now) }
 {
     let mut all = Vec::new(alloc);
     for timer in timers {
@@ -143,11 +123,9 @@ fn ranges_of_timers(
     from: Instant,
     before: Instant,
     timers: &[LoadedTimer],
-) -> Result<Vec<TimerElapse>, PlanFault>
-    ensures { MatchResult result
-        (λ found. map elapse_seen found.items
-        ≡ range_of_each from.secs before.secs (map (elapses_in at.entry (from.secs -ℤ pos 1)) timers.now))
-        (λ fault. fault ≢ NoMemory → IsUnzoned (first_unzoned_line at.entry timers.now) fault) }
+) -> Result<Vec<TimerElapse>, AllocError>
+    ensures { IfOk result (λ found. map elapse_seen found.items
+        ≡ range_of_each from.secs before.secs (map (elapses_in at.entry (from.secs -ℤ pos 1)) timers.now)) }
 {
     let mut found = Vec::new(alloc);
     for (index, timer) in timers.iter().enumerate() {

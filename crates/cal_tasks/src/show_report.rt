@@ -18,16 +18,12 @@ use crate::past::last_elapse;
 use crate::skipped::clock_notes;
 use crate::unguarded::UnguardedTimer;
 use cal_load::LoadedTimer;
-use cal_plan::PlanFault;
 use cal_timer::TimerLine;
 use cal_timers_report::{ClockTime, Place, ShownLine, ShownTimer};
 use std::alloc::{AllocError, Global};
 
 /// Returns the report of a timer, with these warnings and at most `count` elapses. The report notes that systemd
-/// ignores the exceptions if the timer is one of the `unguarded` timers.
-///
-/// Fails with [`PlanFault::NoSuchZone`] if an expression or an exception names a zone that wasn't loaded, and with
-/// [`PlanFault::NoMemory`] if allocation fails.
+/// ignores the exceptions if the timer is one of the `unguarded` timers. Fails only if allocation fails.
 pub fn shown_timer<'a>(
     alloc: Global,
     at: Clocked<'_>,
@@ -35,11 +31,10 @@ pub fn shown_timer<'a>(
     warnings: Vec<String>,
     unguarded: &[UnguardedTimer],
     count: u32,
-) -> Result<ShownTimer<'a>, PlanFault>
+) -> Result<ShownTimer<'a>, AllocError>
     ensures { IfOk result (λ view. IsShownTimer at.entry count (map string_bytes warnings.items) (map unguarded_seen unguarded.now) timer.now (timer_seen view)) }
 {
     let elapses = first_elapses(alloc, at, timer, count)?;
-    // The call above found all zones, so the one below fails only if allocation fails.
     let last = last_elapse(alloc, at, timer, timer.exceptions())?;
     let notes = clock_notes(alloc, at, timer)?;
     let files = file_paths(alloc, timer)?;

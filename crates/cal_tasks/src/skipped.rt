@@ -1,10 +1,11 @@
 //! The search for local times that a clock change skips or repeats (systemd.time(7), Calendar Events).
 
-ghost use Rattle.std.specs.Prelude.{◌≡◌, ◌≤◌, ◌<ℤ◌, ◌≤ℤ◌, ◌<◌, ◌⊎◌, pos, IfOk, IfSome, OnOk, IsSorted, IsPermutation, Some, length, map, true};
+ghost use Rattle.std.specs.Prelude.{◌≡◌, ◌≤◌, ◌<ℤ◌, ◌≤ℤ◌, ◌<◌, ◌⊎◌, pos, IfOk, IfSome, OnOk, IsSorted, IsPermutation, None, Some, length, map, true};
 ghost use Rattle.cal_civil.specs.rules.LocalSecond.{seconds_in_all, IsLocalSecond};
 ghost use Rattle.std.specs.List.{All};
 ghost use Rattle.cal_elapse.specs.computed.Masks.{sets_in};
 ghost use Rattle.cal_elapse.specs.rules.Search.{IsFirstLocal};
+ghost use Rattle.cal_plan.specs.rules.ZoneFor.{first_unzoned};
 ghost use Rattle.cal_spec.specs.rules.Match.{matches};
 ghost use Rattle.cal_spec.specs.rules.ZoneSuffix.{name_in};
 ghost use Rattle.cal_timer.specs.rules.TimerView.{shown};
@@ -23,7 +24,7 @@ use crate::zone_change::next_change;
 use cal_civil::LOCAL_END;
 use cal_elapse::{Masks, next_local};
 use cal_load::LoadedTimer;
-use cal_plan::{PlanFault, zone_for};
+use cal_plan::zone_for;
 use cal_timer::TimerLine;
 use cal_zone::{Instant, Setting, Zone};
 use std::alloc::{AllocError, Global};
@@ -35,15 +36,12 @@ use std::alloc::{AllocError, Global};
 /// A change of a zone is an instant at which its UTC offset isn't the one a second before. The change after the present
 /// is searched for within 1,096 days (three years), and the one after it within 1,096 days of the first. If an offset
 /// lasts less than a day, its changes may not be found. For the changes that are found, no note is missing unless there
-/// are more than 16.
-///
-/// Fails with [`PlanFault::NoSuchZone`] if an expression names a zone that wasn't loaded, and with
-/// [`PlanFault::NoMemory`] if allocation fails.
+/// are more than 16. Fails only if allocation fails.
 pub(crate) fn clock_notes(
     alloc: Global,
     at: Clocked<'_>,
     timer: &LoadedTimer,
-) -> Result<ClockNotes, PlanFault>
+) -> Result<ClockNotes, AllocError>
     ensures notes { IfOk result (λ notes. All
         (IsNoteAmong (setting_for at.entry timer.now) at.entry.now.secs (lists_of_loaded timer.now.calendar).expressions)
         notes.first.items) }
@@ -82,12 +80,14 @@ fn sort_notes(notes: &mut Vec<ClockNote>)
     notes.sort_unstable_by_key(|note| (note.local, note.zone));
 }
 
-/// Returns the earliest notes about all expressions, at most 17, in any order.
+/// Returns the earliest notes about all expressions, at most 17, in any order. Every zone that an expression names must
+/// be known.
 fn notes_of_lines(
     alloc: Global,
     setting: Setting<'_>,
     lines: &[TimerLine],
-) -> Result<Vec<ClockNote>, PlanFault>
+) -> Result<Vec<ClockNote>, AllocError>
+    requires { first_unzoned (setting_seen setting) (map shown lines.now) ≡ None }
     ensures notes { IfOk result (λ notes.
         All (IsNoteAmong (setting_seen setting.entry) setting.entry.now.secs (map shown lines.now)) notes.items) }
     ensures all { IfOk result (λ notes.
@@ -98,7 +98,7 @@ fn notes_of_lines(
     for index in 0..lines.len() {
         let line = &lines[index];
         let Some(zone) = zone_for(setting, &line.expr) else {
-            return Err(PlanFault::NoSuchZone(line.number));
+            unreachable!()
         };
         let masks = Masks::of(&line.expr);
         let zone_index = first_in_zone(lines, index);

@@ -1,5 +1,5 @@
 -- The row of each timer in the report of `list`, and the order of the rows (systemd.timer(5), OnCalendar=).
-use Rattle.std.specs.Prelude.{ℕ, ℤ, Bool, false, true, int_lt, List, [], ◌∷◌, Option, None, Some}
+use Rattle.std.specs.Prelude.{ℤ, Bool, false, true, int_lt, List, [], ◌∷◌, Option, None, Some}
 use Rattle.cal_load.specs.declared.loaded.Loaded.{Loaded}
 use Rattle.cal_load.specs.declared.loaded.LoadedTimer.{LoadedTimer}
 use Rattle.cal_timers_report.specs.rules.ReportView.{UnitView}

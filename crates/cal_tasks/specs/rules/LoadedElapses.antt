@@ -1,6 +1,5 @@
 -- The elapses of loaded timers, computed with the zones that were loaded for each timer: systemd.timer(5), OnCalendar=.
-use Rattle.std.specs.Prelude.{ℕ, List, [], ◌∷◌, ℤ, Option, None}
-use Rattle.std.specs.Option.{option_or}
+use Rattle.std.specs.Prelude.{List, ℤ}
 use Rattle.cal_zone.specs.rules.Setting.{Setting}
 use Rattle.cal_zone.specs.rules.Zone.{zone_of}
 use Rattle.cal_zone.specs.rules.ZoneTable.{zone_named}
@@ -10,7 +9,6 @@ use Rattle.cal_load.specs.declared.loaded.LoadedTimer.{LoadedTimer}
 use Rattle.cal_spec.specs.rules.Fields.{Fields}
 use Rattle.cal_timer.specs.rules.TimerEntries.{Timer}
 use Rattle.cal_plan.specs.rules.TimerElapses.{elapses_of_lists}
-use Rattle.cal_plan.specs.rules.ZoneFor.{unzoned}
 use Rattle.cal_tasks.specs.declared.clocked.Clocked.{Clocked}
 
 -- the expressions and exceptions of a timer
@@ -25,13 +23,3 @@ setting_for at timer = record { local = zone_of at.local; find = zone_named time
 -- the elapses of a timer after the base time
 abbrev pub elapses_in : Clocked → ℤ → LoadedTimer → List ℤ
 elapses_in at base timer = elapses_of_lists (setting_for at timer) base (lists_of_loaded timer.calendar)
-
--- the number of the first line of a timer on which an expression or an exception names a zone that wasn't loaded, or
--- `None` if there is no such line
-abbrev pub unzoned_line : Clocked → LoadedTimer → Option ℕ
-unzoned_line at timer = unzoned (setting_for at timer) (lists_of_loaded timer.calendar)
-
--- the line that `unzoned_line` finds in the first timer that has such a line, or `None` if no timer has one
-abbrev pub first_unzoned_line : Clocked → List LoadedTimer → Option ℕ
-first_unzoned_line at [] = None
-first_unzoned_line at (timer ∷ timers) = option_or (unzoned_line at timer) (first_unzoned_line at timers)

@@ -13,8 +13,8 @@ returns-then-has_any c =
     c.has_any.result c.setting_for.ensures.seen c.exceptions.ensures c.has_any.ensures in
     (rw c.in-Some.is at c.in_ok-instant.ensures, test.0 c.if-has_any.true)
 
-pub returns : goal.returns
-returns c =
+pub returns-else-has_any : goal.returns-else-has_any
+returns-else-has_any c =
     let test = any_here (setting_for c.args.at c.args.timer.now) (setting_seen c.setting_for.result) c.in-Some.instant.secs (map shown c.exceptions.result.now) (exceptions_in c.args.timer.now.calendar)
     c.has_any.result c.setting_for.ensures.seen c.exceptions.ensures c.has_any.ensures in
     (rw c.in-Some.is at c.in_ok-instant.ensures, λ e. false≢true (sym c.if-has_any.false ∙ test.1 e))

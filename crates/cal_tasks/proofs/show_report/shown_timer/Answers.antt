@@ -3,9 +3,16 @@ use Rattle.std.specs.List.{AllZip}
 use Rattle.cal_load.specs.rules.CalendarZones.{expressions_in}
 use Rattle.cal_timers_report.specs.rules.ReportView.{line_seen}
 use Rattle.cal_zone.specs.declared.instant.Instant.{Instant}
+use Rattle.cal_timer.specs.rules.TimerView.{shown}
+use Rattle.cal_tasks.proofs.ZonedLemmas.{exceptions_zoned}
 use Rattle.cal_tasks.specs.rules.LastElapse.{IsLastOf, timed_lines}
+use Rattle.cal_tasks.specs.rules.LoadedElapses.{setting_for}
 use Rattle.cal_tasks.specs.rules.ShowReport.{IsShownLine, clock_time}
 use Rattle.cal_tasks.proofs.show_report.shown_timer.Goals as goal
+
+pub last_elapse-requires : goal.last_elapse-requires
+last_elapse-requires c =
+    exceptions_zoned c.args.at c.args.timer.now (setting_for c.args.at c.args.timer.now) (map shown c.exceptions.result.now) refl c.exceptions.ensures
 
 pub returns : goal.returns
 returns c =
