@@ -1,6 +1,7 @@
 mod ErrorLemmas
 pub mod FoundLemmas
 mod LintFileLemmas
+mod LintLawLemmas
 mod LintLemmas
 mod LintOutputLemmas
 mod LintPlaceLemmas

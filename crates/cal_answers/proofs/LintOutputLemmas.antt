@@ -9,7 +9,7 @@ use Rattle.cal_answers.specs.declared.answer.Asked.{Asked}
 use Rattle.cal_tasks.specs.rules.Unguarded.{unguarded_seen}
 use Rattle.cal_answers.specs.rules.LintCandidates.{Candidate, with_candidates}
 use Rattle.cal_answers.specs.rules.LintFiles.{AreProblemsOfFiles, HasAlso}
-use Rattle.cal_answers.specs.rules.LintOutput.{IsLintEnd, IsLintOutput, all_problems, has_lines, lint_output}
+use Rattle.cal_answers.specs.rules.LintOutput.{IsLint, all_problems, has_lines, lint_output}
 use Rattle.cal_answers.specs.rules.LintRows.{Listed, lint_counts}
 use Rattle.cal_answers.specs.rules.LintService.{unguarded_problems}
 use Rattle.cal_answers.specs.rules.LintStatus.{lint_status}
@@ -25,27 +25,18 @@ all_listed asked machine path loaded start one two all more found none first is 
     added ∙ ap (λ before. before ++ unguarded_problems asked.style asked.is_user (map unguarded_seen asked.unguarded.now))
     (listed ∙ ap (λ before. with_candidates asked.style before found) (first ∙ ap (λ before. before ++ more) none) ∙ ap (with_candidates asked.style more) is)
 
-pub output_on : (asked : Asked) (machine : Machine) (path : List (List ℕ)) (files : LoadedFiles) (loaded : Loaded) (texts : List UnitText) (start one two all : List Listed)
-    (found lacking : List Candidate) (out : List ℕ)
+pub lint_on : (asked : Asked) (machine : Machine) (path : List (List ℕ)) (files : LoadedFiles) (loaded : Loaded) (texts : List UnitText) (start one two all : List Listed)
+    (found lacking : List Candidate) (out : List ℕ) (counts : ProblemCounts) (err : List ℕ) (has_err : Bool) (status : ℕ)
     → texts ≡ files.files.items → start ≡ [] → HasAlso (AreProblemsOfFiles asked.style texts) start one → found ≡ problems_of_timers asked.at machine path loaded
-    → two ≡ with_candidates asked.style one found → all ≡ two ++ unguarded_problems asked.style asked.is_user (map unguarded_seen asked.unguarded.now) → lacking ≡ unread machine path files loaded → out ≡ lint_output asked lacking all
-    → IsLintOutput asked machine path files loaded out
-output_on asked machine path files loaded texts start one two all found lacking out same none has is listed added lacks prints = (
-  has.0,
-  subst (λ texts. AreProblemsOfFiles asked.style texts has.0) same has.1,
-  prints ∙ ap (λ more. lint_output asked more all) lacks
-      ∙ ap (lint_output asked (unread machine path files loaded)) (all_listed asked machine path loaded start one two all has.0 found none has.2 is listed added),
-)
-
-pub end_on : (asked : Asked) (machine : Machine) (path : List (List ℕ)) (files : LoadedFiles) (loaded : Loaded) (texts : List UnitText) (start one two all : List Listed)
-    (found : List Candidate) (counts : ProblemCounts) (err : List ℕ) (has_err : Bool) (status : ℕ)
-    → texts ≡ files.files.items → start ≡ [] → HasAlso (AreProblemsOfFiles asked.style texts) start one → found ≡ problems_of_timers asked.at machine path loaded
-    → two ≡ with_candidates asked.style one found → all ≡ two ++ unguarded_problems asked.style asked.is_user (map unguarded_seen asked.unguarded.now) → counts ≡ lint_counts all → has_err ≡ has_lines err → status ≡ lint_status asked.is_strict counts has_err
-    → IsLintEnd asked machine path files loaded err status
-end_on asked machine path files loaded texts start one two all found counts err has_err status same none has is listed added counted lines ends = (
-  has.0,
-  subst (λ texts. AreProblemsOfFiles asked.style texts has.0) same has.1,
-  ends ∙ ap (lint_status asked.is_strict counts) lines
-      ∙ ap (λ n. lint_status asked.is_strict n (has_lines err))
-      (counted ∙ ap lint_counts (all_listed asked machine path loaded start one two all has.0 found none has.2 is listed added)),
-)
+    → two ≡ with_candidates asked.style one found → all ≡ two ++ unguarded_problems asked.style asked.is_user (map unguarded_seen asked.unguarded.now)
+    → lacking ≡ unread machine path files loaded → out ≡ lint_output asked lacking all
+    → counts ≡ lint_counts all → has_err ≡ has_lines err → status ≡ lint_status asked.is_strict counts has_err
+    → IsLint asked machine path files loaded out err status
+lint_on asked machine path files loaded texts start one two all found lacking out counts err has_err status same none has is listed added lacks prints counted lines ends =
+    let listed_all = all_listed asked machine path loaded start one two all has.0 found none has.2 is listed added in
+    record {
+      found = has.0;
+      of_files = subst (λ texts. AreProblemsOfFiles asked.style texts has.0) same has.1;
+      prints = prints ∙ ap (λ more. lint_output asked more all) lacks ∙ ap (lint_output asked (unread machine path files loaded)) listed_all;
+      ends = ends ∙ ap (lint_status asked.is_strict counts) lines ∙ ap (λ n. lint_status asked.is_strict n (has_lines err)) (counted ∙ ap lint_counts listed_all);
+    }

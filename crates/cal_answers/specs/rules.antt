@@ -1,8 +1,9 @@
--- What the manuals and this project's own rules say. The contracts of this crate cite these definitions.
+-- What the manuals and this project's own rules say. The laws and the contracts of this crate cite these definitions.
 pub mod ErrorText
 pub mod Found
 pub mod LintCandidates
 pub mod LintFiles
+pub mod LintLaw
 pub mod LintOutput
 pub mod LintRows
 pub mod LintService

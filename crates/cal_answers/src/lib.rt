@@ -17,6 +17,7 @@ mod problems;
 mod range_zones;
 mod reading;
 mod remarks;
+pub mod report_laws;
 mod search_path;
 mod service_problems;
 mod setting_problems;

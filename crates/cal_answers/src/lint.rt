@@ -9,7 +9,7 @@ ghost use Rattle.cal_unit_index.specs.rules.Index.{IsIndexOf};
 ghost use Rattle.cal_answers.specs.rules.ErrorText.{lint_lines, unfound_line};
 ghost use Rattle.cal_answers.specs.rules.LintCandidates.{shown_candidate, with_candidates};
 ghost use Rattle.cal_answers.specs.rules.LintFiles.{AreProblemsOfFiles, AreProblemsOfText, HasAlso};
-ghost use Rattle.cal_answers.specs.rules.LintOutput.{IsLintEndBy, IsLintOutputBy, has_lines, lint_output};
+ghost use Rattle.cal_answers.specs.rules.LintOutput.{IsLintBy, has_lines, lint_output};
 ghost use Rattle.cal_answers.specs.rules.LintRows.{listed_in, rows_of};
 ghost use Rattle.cal_answers.specs.rules.LintStatus.{lint_status};
 ghost use Rattle.cal_answers.specs.rules.LintTimers.{problems_of_timers, unread, unread_error, unread_errors};
@@ -47,9 +47,8 @@ pub(crate) fn lint(
     timers: &Loaded,
 ) -> Result<Answer, PlanFault>
     ensures status { IfOk result (λ answer. answer.status ≤ 2) }
-    ensures out { IfOk result (λ answer. IsLintOutputBy asked.entry index.now files.now timers.now (string_bytes answer.out)) }
+    ensures prints { IfOk result (λ answer. IsLintBy asked.entry index.now files.now timers.now (string_bytes answer.out) (string_bytes answer.err) answer.status) }
     ensures lines { IfOk result (λ answer. string_bytes answer.err ≡ lint_lines files.now.faults.items timers.now.faults.items) }
-    ensures ended { IfOk result (λ answer. IsLintEndBy asked.entry index.now files.now timers.now (string_bytes answer.err) answer.status) }
 {
     let mut problems = Problems::new(alloc);
     add_files(alloc, asked.style, files.files.as_slice(), &mut problems)?;

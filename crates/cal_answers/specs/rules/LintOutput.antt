@@ -38,28 +38,18 @@ all_problems asked machine path loaded found =
     with_candidates asked.style found (problems_of_timers asked.at machine path loaded)
     ++ unguarded_problems asked.style asked.is_user (map unguarded_seen asked.unguarded.now)
 
-abbrev pub IsLintOutput : Asked → Machine → List (List ℕ) → LoadedFiles → Loaded → List ℕ → Type 0
-IsLintOutput asked machine path files loaded out =
-    (found : List Listed) × AreProblemsOfFiles asked.style files.files.items found
-    × (out ≡ lint_output asked (unread machine path files loaded) (all_problems asked machine path loaded found))
-
 -- whether there are error lines
 abbrev pub has_lines : List ℕ → Bool
 has_lines err = not (length err == 0)
 
--- the exit status for the listed problems and the error lines
-abbrev pub IsLintEnd : Asked → Machine → List (List ℕ) → LoadedFiles → Loaded → List ℕ → ℕ → Type 0
-IsLintEnd asked machine path files loaded err status =
-    (found : List Listed) × AreProblemsOfFiles asked.style files.files.items found
-    × (status ≡ lint_status asked.is_strict (lint_counts (all_problems asked machine path loaded found)) (has_lines err))
+-- what is printed, besides the error lines `err`, and the exit status: both are those of the same problems
+pub record IsLint (asked : Asked) (machine : Machine) (path : List (List ℕ)) (files : LoadedFiles) (loaded : Loaded) (out err : List ℕ) (status : ℕ) : Type 0 where
+  pub found : List Listed
+  pub of_files : AreProblemsOfFiles asked.style files.files.items found
+  pub prints : out ≡ lint_output asked (unread machine path files loaded) (all_problems asked machine path loaded found)
+  pub ends : status ≡ lint_status asked.is_strict (lint_counts (all_problems asked machine path loaded found)) (has_lines err)
 
--- ## For all machines that have this index
-
--- on each machine and for each search path that has this index, `out` is what `lint` prints
-abbrev pub IsLintOutputBy : Asked → UnitIndex → LoadedFiles → Loaded → List ℕ → Type 0
-IsLintOutputBy asked index files loaded out =
-    (machine : Machine) (path : List (List ℕ)) → IsIndexOf machine path index → IsLintOutput asked machine path files loaded out
-
-abbrev pub IsLintEndBy : Asked → UnitIndex → LoadedFiles → Loaded → List ℕ → ℕ → Type 0
-IsLintEndBy asked index files loaded err status =
-    (machine : Machine) (path : List (List ℕ)) → IsIndexOf machine path index → IsLintEnd asked machine path files loaded err status
+-- `index` is the index of a search path on a machine; what is printed is true of each such machine and search path
+abbrev pub IsLintBy : Asked → UnitIndex → LoadedFiles → Loaded → List ℕ → List ℕ → ℕ → Type 0
+IsLintBy asked index files loaded out err status =
+    (machine : Machine) (path : List (List ℕ)) → IsIndexOf machine path index → IsLint asked machine path files loaded out err status

@@ -44,7 +44,7 @@ use Rattle.cal_answers.specs.declared.found.LoadedByVerb.{LoadedByVerb}
 use Rattle.cal_answers.specs.declared.found.LoadedByVerb.TheVariants as loads
 use Rattle.cal_answers.specs.rules.ErrorText.{fault_lines, lines_of_both, lint_lines, loaded_lines, masked_lines}
 use Rattle.cal_answers.specs.rules.Found.{IsFoundBy}
-use Rattle.cal_answers.specs.rules.LintOutput.{IsLintEndBy, IsLintOutputBy}
+use Rattle.cal_answers.specs.rules.LintOutput.{IsLintBy}
 use Rattle.cal_answers.specs.rules.LocalClock.{clock_zone}
 use Rattle.cal_answers.specs.rules.Printed.{IsStopped, Printed, status_by}
 use Rattle.cal_answers.specs.rules.Remarks.{with_common_lines}
@@ -263,9 +263,8 @@ IsShowAnswer asked loaded printed = IsShowOutput asked loaded printed.out × Has
 -- search path
 abbrev pub IsLintAnswer : Asked → UnitIndex → LoadedFiles → Loaded → Printed → Type 0
 IsLintAnswer asked index files timers printed =
-    IsLintOutputBy asked index files timers printed.out
+    IsLintBy asked index files timers printed.out printed.err printed.status
     × (printed.err ≡ lint_lines files.faults.items timers.faults.items)
-    × IsLintEndBy asked index files timers printed.err printed.status
 
 -- what a verb answers for what was loaded
 abbrev pub IsVerbAnswer : Asked → UnitIndex → LoadedByVerb → Printed → Type 0
