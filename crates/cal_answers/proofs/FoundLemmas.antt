@@ -1,35 +1,33 @@
 -- Lemmas on what is found when a question is read.
-use Rattle.std.proofs.Common.{◌≡◌, ◌∙◌, ℕ, All, Bool, Bor, true, false, List, [], ◌∷◌, Option, None, Some, ap, arith, drop, get_or, inl, inr, length, map, refl, subst, sym}
-use Rattle.std.proofs.lemmas.List.{drop-map}
+use Rattle.std.proofs.Common.{◌≡◌, ◌∙◌, ℕ, All, Bool, Bor, true, false, List, [], ◌∷◌, Option, None, Some, ap, inl, inr, map, refl, string_bytes, subst, sym}
 use Rattle.cal_machine.specs.declared.raw.Raw.{Ghosts}
 use Rattle.cal_machine.specs.declared.recorder.Recorder.{Recorder}
 use Rattle.cal_machine.specs.rules.Machine.{Machine}
 use Rattle.cal_machine.specs.rules.Recorded.{AgreesWith}
 use Rattle.cal_machine.specs.rules.Recording.{read_by, read_by-given, read_by-shows}
 use Rattle.cal_machine.specs.rules.Seen.{some_machine, some_machine-matches}
-use Rattle.cal_timers_command.specs.declared.question.Question.{Question}
+use Rattle.cal_timers_command.specs.declared.question.Command.{Command}
 use Rattle.cal_unit_index.specs.rules.Index.{IsIndexOf}
+use Rattle.cal_load.specs.declared.files.LoadedFiles.{LoadedFiles}
 use Rattle.cal_load.specs.declared.loaded.Loaded.{Loaded}
+use Rattle.cal_load.specs.declared.target_fault.TargetReason.{TargetReason}
+use Rattle.cal_load.specs.declared.target_fault.TargetReason.TheVariants.{NotFound, Template, TooManyAliases, Path, Broken, NothingToDo, Expression, ExpressionZone}
+use Rattle.cal_load.specs.rules.AllFiles.{AreTextsAt, all_paths, paths_by}
 use Rattle.cal_load.specs.rules.AllTargets.{HasAll, HasAllTargets, HasAllUnits, IsOutcome, Sought}
 use Rattle.cal_load.specs.rules.AllUnits.{shown_stems, started_if_all}
+use Rattle.cal_load.specs.rules.Expressions.{IsExpressionReason, IsTimerOrReason}
+use Rattle.cal_load.specs.rules.FileFaults.{AreFaultsOf, all_lost, lost_by}
+use Rattle.std.specs.List.{flat_map}
 use Rattle.cal_answers.specs.declared.found.Known.{Known}
 use Rattle.cal_answers.specs.declared.found.LoadedByVerb.{LoadedByVerb}
 use Rattle.cal_answers.specs.declared.found.LoadedByVerb.TheVariants as loads
-use Rattle.cal_answers.specs.rules.Found.{AreAll, AreAllOn, AreLoadedOn, AreSidesOn, FollowsFromRead, HasAllFor, HasAllLinted, HasDue, HasUnits, IsIndexFor, IsKnownOn, IsPathOf, IsSideOn, needs_units, targets_of, verb_of}
+use Rattle.cal_answers.specs.rules.Found.{AreAll, AreAllOn, AreFilesOn, AreLoadedOn, FollowsFromRead, HasAllFor, HasAllLinted, HasDue, HasUnits, IsIndexFor, IsKnownOn, IsLoadedFor, IsPathOf, asks_all, needs_units}
 use Rattle.cal_answers.specs.rules.LocalClock.{IsLocalZone, clock_zone, local_zone_of, shown_zone_of}
 use Rattle.cal_answers.specs.rules.MachinePath.{machine_path}
 use Rattle.cal_answers.specs.rules.RangeZones.{AreRangeZones}
+use Rattle.cal_answers.specs.rules.Trigger.{due_on}
 use Rattle.cal_tasks.specs.rules.Unguarded.{unguarded_seen}
 use Rattle.cal_answers.specs.rules.Unguarded.{unguarded_on}
-
--- if the two targets of `same` were each loaded by itself (`IsSideOn`), `AreSidesOn` holds for both
-pub two_sides : (machine : Machine) (path : List (List ℕ)) (targets : List (Bor (List ℕ))) (d : Bor (List ℕ)) (first second : Loaded)
-    → length targets ≡ 2 → IsSideOn machine path (get_or targets 0 d).now first
-    → IsSideOn machine path (get_or targets 1 d).now second → AreSidesOn machine path (map (λ text. text.now) targets) first second
-two_sides machine path [] d first second two one other = absurd (let no : ⊥ = omega (arith, two) in no)
-two_sides machine path (x ∷ []) d first second two one other = absurd (let no : ⊥ = omega (arith, two) in no)
-two_sides machine path (x ∷ y ∷ []) d first second two one other = (one, other)
-two_sides machine path (x ∷ y ∷ z ∷ rest) d first second two one other = absurd (let no : ⊥ = omega (arith, two) in no)
 
 -- if `HasAll` holds for all machines and search paths that `Knows` holds for, it holds for any one of them
 all_at : (Knows : Machine → List (List ℕ) → Type 0) (sought : Machine → List (List ℕ) → List Sought) (machine : Machine) (path : List (List ℕ)) (timers : Loaded)
@@ -75,57 +73,84 @@ pub all_for : (Shows : Machine → Type 0) (Is : Machine → List (List ℕ) →
 all_for Shows Is is_all [] loaded units started targets = (units refl, λ machine path knows. started refl machine path knows.0 knows.1)
 all_for Shows Is is_all (one ∷ rest) loaded units started targets = targets (λ h. absurd (cc))
 
--- `timers` are the targets of `between` after its two times. If `HasAllFor` holds for `timers`, it holds for the texts
--- of the targets without the first two.
-pub all_between : (Shows : Machine → Type 0) (Is : Machine → List (List ℕ) → Type 0) (is_all : Bool) (targets timers : List (Bor (List ℕ))) (loaded : Loaded)
-    → timers ≡ drop 2 targets
-    → HasAllFor (λ machine path. Shows machine × Is machine path) is_all (map (λ text. text.now) timers) loaded
-    → HasAllFor (λ machine path. Shows machine × Is machine path) is_all (drop 2 (map (λ text. text.now) targets)) loaded
-all_between Shows Is is_all targets timers loaded same all =
-    subst (λ texts. HasAllFor (λ machine path. Shows machine × Is machine path) is_all texts loaded)
-    (ap (λ (texts : List (Bor (List ℕ))). map (λ text. text.now) texts) same ∙ sym (drop-map (λ text. text.now) 2 targets)) all
-
 -- `HasAllLinted` holds if, in the case without targets, all units were looked for (`HasUnits`)
 pub all_linted : (Knows : Machine → List (List ℕ) → Type 0) (is_all : Bool) (targets : List (Bor (List ℕ))) (loaded : Loaded)
     → (targets ≡ [] → HasUnits Knows is_all loaded) → HasAllLinted Knows is_all (map (λ text. text.now) targets) loaded
 all_linted Knows is_all [] loaded units = units refl
 all_linted Knows is_all (one ∷ rest) loaded units = tt
 
-due_at : (Knows : Machine → List (List ℕ) → Type 0) (machine : Machine) (path : List (List ℕ)) (targets : List (List ℕ)) (timer : Option Loaded) → Knows machine path
-    → HasDue Knows targets timer → HasDue (λ other folders. (other ≡ machine) × (folders ≡ path)) targets timer
-due_at Knows machine path targets None knows all = tt
-due_at Knows machine path targets (Some timer) knows all = all_at Knows _ machine path timer knows all
+-- `AreFilesOn` holds if the files of all units or of what is named were loaded
+pub files_on : (machine : Machine) (path : List (List ℕ)) (is_all : Bool) (targets : List (Bor (List ℕ))) (files : LoadedFiles)
+    → (targets ≡ [] → AreTextsAt machine (all_paths machine path is_all) files.files.items × AreFaultsOf (all_lost machine path is_all) files.faults.items)
+    → ((targets ≡ [] → ⊥) → AreTextsAt machine (flat_map (paths_by machine path) (map (λ text. text.now) targets)) files.files.items
+    × AreFaultsOf (flat_map (lost_by machine path) (map (λ text. text.now) targets)) files.faults.items)
+    → AreFilesOn machine path is_all (map (λ text. text.now) targets) files
+files_on machine path is_all [] files whole named = whole refl
+files_on machine path is_all (one ∷ rest) files whole named = named (λ h. absurd (cc))
 
-pub loaded_at : (Knows : Machine → List (List ℕ) → Type 0) (machine : Machine) (path : List (List ℕ)) (is_all : Bool) (targets : List (List ℕ)) (loaded : LoadedByVerb) → Knows machine path
-    → AreAll Knows is_all targets loaded → AreAllOn machine path is_all targets loaded
-loaded_at Knows machine path is_all targets (loads.List timers) knows all = for_at Knows machine path is_all targets timers knows all
-loaded_at Knows machine path is_all targets (loads.Show timers) knows all = for_at Knows machine path is_all targets timers knows all
-loaded_at Knows machine path is_all targets (loads.Lint files timers) knows all = linted_at Knows machine path is_all targets timers knows all
-loaded_at Knows machine path is_all targets (loads.Between timers) knows all = for_at Knows machine path is_all (drop 2 targets) timers knows all
-loaded_at Knows machine path is_all targets (loads.Same first second) knows all = tt
-loaded_at Knows machine path is_all targets (loads.Next timers) knows all = tt
-loaded_at Knows machine path is_all targets (loads.Due timer) knows all = due_at Knows machine path targets timer knows all
+reason_at : (Shows Knows : Machine → Type 0) (texts : List (List ℕ)) (target : List ℕ) (reason : TargetReason) → ((machine : Machine) → Knows machine → Shows machine)
+    → IsExpressionReason Shows texts target reason → IsExpressionReason Knows texts target reason
+reason_at Shows Knows texts target NotFound shows is = is
+reason_at Shows Knows texts target Template shows is = is
+reason_at Shows Knows texts target TooManyAliases shows is = is
+reason_at Shows Knows texts target (Path place why) shows is = is
+reason_at Shows Knows texts target (Broken place line) shows is = is
+reason_at Shows Knows texts target (NothingToDo own read) shows is = is
+reason_at Shows Knows texts target (Expression fault) shows is = is
+reason_at Shows Knows texts target (ExpressionZone path reason) shows is =
+    (is.0, is.1, λ machine knows. is.2 machine (shows machine knows))
+
+-- a timer or a reason on all machines for which `Shows` holds is one on all machines for which `Knows` holds, if these
+-- are among them
+pub made_at : (Shows Knows : Machine → Type 0) (texts : List (List ℕ)) (loaded : Loaded) → ((machine : Machine) → Knows machine → Shows machine)
+    → IsTimerOrReason Shows texts loaded → IsTimerOrReason Knows texts loaded
+made_at Shows Knows texts loaded shows (none, inl one) = (none, inl one)
+made_at Shows Knows texts loaded shows (none, inr fault) =
+    (none, inr (fault.0, (fault.1.0, fault.1.1, reason_at Shows Knows texts (string_bytes fault.1.0.target) fault.1.0.reason shows fault.1.2)))
+
+due_at : (Knows : Machine → List (List ℕ) → Type 0) (machine : Machine) (path : List (List ℕ)) (about : Option (List ℕ)) (timer : Option Loaded) → Knows machine path
+    → HasDue Knows about timer → HasDue (λ other folders. (other ≡ machine) × (folders ≡ path)) about timer
+due_at Knows machine path None timer knows all = tt
+due_at Knows machine path (Some name) None knows all = tt
+due_at Knows machine path (Some name) (Some timer) knows all = all_at Knows _ machine path timer knows all
+
+pub loaded_at : (Knows : Machine → List (List ℕ) → Type 0) (machine : Machine) (path : List (List ℕ)) (all_units : Bool) (about : Option (List ℕ)) (loaded : LoadedByVerb) → Knows machine path
+    → AreAll Knows all_units about loaded → AreAllOn machine path all_units about loaded
+loaded_at Knows machine path all_units about (loads.List timers named is_all) knows all = for_at Knows machine path all_units (map string_bytes named.now) timers knows all
+loaded_at Knows machine path all_units about (loads.Show timers named count) knows all = for_at Knows machine path all_units (map string_bytes named.now) timers knows all
+loaded_at Knows machine path all_units about (loads.Lint files timers named is_strict) knows all = (
+  linted_at Knows machine path all_units (map string_bytes named.now) timers knows all.0,
+  λ other folders same.
+      subst (λ other. AreFilesOn other folders all_units (map string_bytes named.now) files) (sym same.0)
+      (subst (λ folders. AreFilesOn machine folders all_units (map string_bytes named.now) files) (sym same.1) (all.1 machine path knows)),
+)
+loaded_at Knows machine path all_units about (loads.Between timers named from to) knows all = for_at Knows machine path all_units (map string_bytes named.now) timers knows all
+loaded_at Knows machine path all_units about (loads.Same first one second other) knows all = tt
+loaded_at Knows machine path all_units about (loads.Next timers expressions count) knows all =
+    made_at (λ other. (folders : List (List ℕ)) × Knows other folders) (λ other. (folders : List (List ℕ)) × ((other ≡ machine) × (folders ≡ path)))
+    (map string_bytes expressions.now) timers (λ other is. (path, subst (λ other. Knows other path) (sym is.1.0) knows)) all
+loaded_at Knows machine path all_units about (loads.Due timer named) knows all = due_at Knows machine path about timer knows all
 
 -- what is known for a question is true on a machine (`IsKnownOn`) if each part of it is; `path` is the search path, or
 -- has no folders
-known_with : (machine : Machine) (question : Question) (known : Known) (path : List (List ℕ)) (needed : Bool)
-    → needs_units question.verb (targets_of machine question) ≡ needed
-    → IsLocalZone machine (local_zone_of machine question) (clock_zone known.local)
-    → IsLocalZone machine (shown_zone_of machine question) (clock_zone known.shown)
-    → AreRangeZones machine question.verb (targets_of machine question) known.range
-    → IsPathOf machine question.is_user needed path → IsIndexOf machine path known.index → verb_of known.loaded ≡ question.verb
-    → ((folders : List (List ℕ)) → IsIndexOf machine folders known.index → AreLoadedOn machine folders (targets_of machine question) known.loaded)
-    → ((folders : List (List ℕ)) → IsIndexOf machine folders known.index → AreAllOn machine folders question.is_all (targets_of machine question) known.loaded)
-    → ((folders : List (List ℕ)) → IsIndexOf machine folders known.index → map unguarded_seen known.unguarded.items ≡ unguarded_on machine folders question.is_user known.loaded)
-    → IsKnownOn machine question known
-known_with machine question known path needed about zone shown range searched is same loads whole unguarded = record {
+known_with : (machine : Machine) (command : Command) (known : Known) (path : List (List ℕ)) (needed : Bool)
+    → needs_units command.question (due_on machine command.question) ≡ needed
+    → IsLocalZone machine (local_zone_of machine command) (clock_zone known.local)
+    → IsLocalZone machine (shown_zone_of machine command) (clock_zone known.shown)
+    → AreRangeZones machine command.question known.range
+    → IsPathOf machine command.options.is_user needed path → IsIndexOf machine path known.index → IsLoadedFor command.question known.loaded
+    → ((folders : List (List ℕ)) → IsIndexOf machine folders known.index → AreLoadedOn machine folders (due_on machine command.question) known.loaded)
+    → ((folders : List (List ℕ)) → IsIndexOf machine folders known.index → AreAllOn machine folders (asks_all command.question) (due_on machine command.question) known.loaded)
+    → ((folders : List (List ℕ)) → IsIndexOf machine folders known.index → map unguarded_seen known.unguarded.items ≡ unguarded_on machine folders command.options.is_user known.loaded)
+    → IsKnownOn machine command known
+known_with machine command known path needed about zone shown range searched is same loads whole unguarded = record {
   local = zone;
   shown = shown;
   range = range;
   path = path;
-  searched = subst (λ needed. IsPathOf machine question.is_user needed path) (sym about) searched;
+  searched = subst (λ needed. IsPathOf machine command.options.is_user needed path) (sym about) searched;
   index = is;
-  for_verb = same;
+  for_question = same;
   loaded = loads path is;
   whole = whole path is;
   unguarded = unguarded path is;
@@ -133,23 +158,23 @@ known_with machine question known path needed about zone shown range searched is
 
 -- what is known for a question is true on a machine (`IsKnownOn`) if each part of it is; `needed` says whether the
 -- question can be about units
-pub known_on : (machine : Machine) (question : Question) (known : Known) (path : List (List ℕ)) (needed : Bool)
-    → needs_units question.verb (targets_of machine question) ≡ needed
-    → IsLocalZone machine (local_zone_of machine question) (clock_zone known.local)
-    → IsLocalZone machine (shown_zone_of machine question) (clock_zone known.shown)
-    → AreRangeZones machine question.verb (targets_of machine question) known.range
-    → machine_path machine question.is_user ≡ Some path → IsIndexFor machine path known.index
-    → (needed ≡ true → IsIndexOf machine path known.index) → verb_of known.loaded ≡ question.verb
-    → ((folders : List (List ℕ)) → IsIndexOf machine folders known.index → AreLoadedOn machine folders (targets_of machine question) known.loaded)
-    → ((folders : List (List ℕ)) → IsIndexOf machine folders known.index → AreAllOn machine folders question.is_all (targets_of machine question) known.loaded)
-    → ((folders : List (List ℕ)) → IsIndexOf machine folders known.index → map unguarded_seen known.unguarded.items ≡ unguarded_on machine folders question.is_user known.loaded)
-    → IsKnownOn machine question known
-known_on machine question known path true about zone shown range searched index indexed same loads whole unguarded =
-    known_with machine question known path true about zone shown range searched (indexed refl) same loads whole unguarded
-known_on machine question known path false about zone shown range searched (inl is) indexed same loads whole unguarded =
-    known_with machine question known path false about zone shown range (inl searched) is same loads whole unguarded
-known_on machine question known path false about zone shown range searched (inr is) indexed same loads whole unguarded =
-    known_with machine question known [] false about zone shown range (inr refl) is same loads whole unguarded
+pub known_on : (machine : Machine) (command : Command) (known : Known) (path : List (List ℕ)) (needed : Bool)
+    → needs_units command.question (due_on machine command.question) ≡ needed
+    → IsLocalZone machine (local_zone_of machine command) (clock_zone known.local)
+    → IsLocalZone machine (shown_zone_of machine command) (clock_zone known.shown)
+    → AreRangeZones machine command.question known.range
+    → machine_path machine command.options.is_user ≡ Some path → IsIndexFor machine path known.index
+    → (needed ≡ true → IsIndexOf machine path known.index) → IsLoadedFor command.question known.loaded
+    → ((folders : List (List ℕ)) → IsIndexOf machine folders known.index → AreLoadedOn machine folders (due_on machine command.question) known.loaded)
+    → ((folders : List (List ℕ)) → IsIndexOf machine folders known.index → AreAllOn machine folders (asks_all command.question) (due_on machine command.question) known.loaded)
+    → ((folders : List (List ℕ)) → IsIndexOf machine folders known.index → map unguarded_seen known.unguarded.items ≡ unguarded_on machine folders command.options.is_user known.loaded)
+    → IsKnownOn machine command known
+known_on machine command known path true about zone shown range searched index indexed same loads whole unguarded =
+    known_with machine command known path true about zone shown range searched (indexed refl) same loads whole unguarded
+known_on machine command known path false about zone shown range searched (inl is) indexed same loads whole unguarded =
+    known_with machine command known path false about zone shown range (inl searched) is same loads whole unguarded
+known_on machine command known path false about zone shown range searched (inr is) indexed same loads whole unguarded =
+    known_with machine command known [] false about zone shown range (inr refl) is same loads whole unguarded
 
 -- if something is true of all machines that agree with what a recorder has read, it follows from what was read
 -- (`FollowsFromRead`)

@@ -74,12 +74,12 @@ status_if false false false warnings E W has_e has_w = (
   ],
 )
 
-pub fails_if : (asked : Asked) (machine : Machine) (path : List (List ℕ)) (files : LoadedFiles) (loaded : Loaded) (out err : List ℕ) (status : ℕ) (is : IsLint asked machine path files loaded out err status)
-    → (status ≡ 1) ↔ IsFailure asked.is_strict (has_lines err) (all_problems asked machine path loaded is.found)
-fails_if asked machine path files loaded out err status is =
+pub fails_if : (asked : Asked) (is_strict : Bool) (machine : Machine) (path : List (List ℕ)) (files : LoadedFiles) (loaded : Loaded) (out err : List ℕ) (status : ℕ) (is : IsLint asked is_strict machine path files loaded out err status)
+    → (status ≡ 1) ↔ IsFailure is_strict (has_lines err) (all_problems asked machine path loaded is.found)
+fails_if asked is_strict machine path files loaded out err status is =
     let listed = all_problems asked machine path loaded is.found in
-    subst (λ (n : ℕ). IsOne n ↔ IsFailure asked.is_strict (has_lines err) listed) (sym is.ends)
-    (status_if (has_lines err) (nat_lt 0 (lint_counts listed).errors) asked.is_strict (nat_lt 0 (lint_counts listed).warnings) (HasError listed) (HasWarning listed) (errors_if listed) (warnings_if listed))
+    subst (λ (n : ℕ). IsOne n ↔ IsFailure is_strict (has_lines err) listed) (sym is.ends)
+    (status_if (has_lines err) (nat_lt 0 (lint_counts listed).errors) is_strict (nat_lt 0 (lint_counts listed).warnings) (HasError listed) (HasWarning listed) (errors_if listed) (warnings_if listed))
 
 either_one : (b : Bool) → cond b 1 0 + cond (not b) 1 0 ≡ 1
 either_one true = refl

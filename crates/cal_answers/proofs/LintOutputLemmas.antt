@@ -25,18 +25,18 @@ all_listed asked machine path loaded start one two all more found none first is 
     added ∙ ap (λ before. before ++ unguarded_problems asked.style asked.is_user (map unguarded_seen asked.unguarded.now))
     (listed ∙ ap (λ before. with_candidates asked.style before found) (first ∙ ap (λ before. before ++ more) none) ∙ ap (with_candidates asked.style more) is)
 
-pub lint_on : (asked : Asked) (machine : Machine) (path : List (List ℕ)) (files : LoadedFiles) (loaded : Loaded) (texts : List UnitText) (start one two all : List Listed)
+pub lint_on : (asked : Asked) (is_strict : Bool) (machine : Machine) (path : List (List ℕ)) (files : LoadedFiles) (loaded : Loaded) (texts : List UnitText) (start one two all : List Listed)
     (found lacking : List Candidate) (out : List ℕ) (counts : ProblemCounts) (err : List ℕ) (has_err : Bool) (status : ℕ)
     → texts ≡ files.files.items → start ≡ [] → HasAlso (AreProblemsOfFiles asked.style texts) start one → found ≡ problems_of_timers asked.at machine path loaded
     → two ≡ with_candidates asked.style one found → all ≡ two ++ unguarded_problems asked.style asked.is_user (map unguarded_seen asked.unguarded.now)
     → lacking ≡ unread machine path files loaded → out ≡ lint_output asked lacking all
-    → counts ≡ lint_counts all → has_err ≡ has_lines err → status ≡ lint_status asked.is_strict counts has_err
-    → IsLint asked machine path files loaded out err status
-lint_on asked machine path files loaded texts start one two all found lacking out counts err has_err status same none has is listed added lacks prints counted lines ends =
+    → counts ≡ lint_counts all → has_err ≡ has_lines err → status ≡ lint_status is_strict counts has_err
+    → IsLint asked is_strict machine path files loaded out err status
+lint_on asked is_strict machine path files loaded texts start one two all found lacking out counts err has_err status same none has is listed added lacks prints counted lines ends =
     let listed_all = all_listed asked machine path loaded start one two all has.0 found none has.2 is listed added in
     record {
       found = has.0;
       of_files = subst (λ texts. AreProblemsOfFiles asked.style texts has.0) same has.1;
       prints = prints ∙ ap (λ more. lint_output asked more all) lacks ∙ ap (lint_output asked (unread machine path files loaded)) listed_all;
-      ends = ends ∙ ap (lint_status asked.is_strict counts) lines ∙ ap (λ n. lint_status asked.is_strict n (has_lines err)) (counted ∙ ap lint_counts listed_all);
+      ends = ends ∙ ap (lint_status is_strict counts) lines ∙ ap (λ n. lint_status is_strict n (has_lines err)) (counted ∙ ap lint_counts listed_all);
     }

@@ -21,9 +21,8 @@ use crate::range_zones::RangeZones;
 use crate::remarks::{with_empty_folders, with_verb_hint, with_zone_note};
 use crate::timers::{list, show};
 use cal_load::{BrokenLine, IgnoredLine, Loaded, LoadedTimer, TargetFault, UnusableZone};
-use cal_plan::PlanFault;
 use cal_tasks::{Clocked, UnguardedTimer};
-use cal_timers_command::Question;
+use cal_timers_command::Options;
 use cal_timers_report::Style;
 use cal_timers_text::{broken_text, fault_text, ignored_text, unusable_zone_text};
 use cal_unit_index::UnitIndex;
@@ -39,9 +38,6 @@ pub(crate) const INVALID: u8 = 1;
 /// one of the timers of `same` can't be loaded.
 pub(crate) const UNUSABLE: u8 = 2;
 
-/// The number of elapses to show if the question doesn't say how many.
-const DEFAULT_COUNT: u32 = 5;
-
 /// The texts for standard output and standard error, and the exit status.
 #[derive(Debug, Drop)]
 pub(crate) struct Answer {
@@ -53,7 +49,7 @@ pub(crate) struct Answer {
     pub status: u8,
 }
 
-/// What a verb needs to know: the present, the zones, and parts of the question.
+/// What all verbs need to know: the present, the zones, and options.
 #[derive(Clone, Copy)]
 pub(crate) struct Asked<'a> {
     /// The present and the local zone.
@@ -63,36 +59,27 @@ pub(crate) struct Asked<'a> {
     pub shown: Clocked<'a>,
     /// The zones that FROM and TO can name.
     pub range: &'a RangeZones,
-    /// The arguments that are neither the verb nor options.
-    pub targets: &'a [String],
     /// The timers whose exceptions systemd ignores.
     pub unguarded: &'a [UnguardedTimer],
-    /// The number of elapses to show.
-    pub count: u32,
-    /// Whether a question without targets is about all units, not only about those that other units start.
-    pub is_all: bool,
     /// Whether the units are those of a user.
     pub is_user: bool,
-    /// Whether a warning of `lint` gives the status [`INVALID`].
-    pub is_strict: bool,
     pub is_json: bool,
     pub style: Style,
 }
 
 /// Answers a question from what [`read_question`](crate::reading::read_question) found for it. Reads nothing itself.
-///
-/// Fails with [`PlanFault::NoMemory`] if allocation fails.
+/// Fails only if allocation fails.
 pub(crate) fn answer_question(
     alloc: Global,
-    question: &Question,
-    found: &Found,
+    options: &Options,
+    found: &Found<'_>,
     style: Style,
-) -> Result<Answer, PlanFault>
+) -> Result<Answer, AllocError>
     ensures status { IfOk result (λ answer. answer.status ≤ 2) }
-    ensures answer { IfOk result (λ answer. IsAnswerToFound question.entry.now found.now style (printed_of answer)) }
+    ensures answer { IfOk result (λ answer. IsAnswerToFound options.entry.now found.now style (printed_of answer)) }
 {
     match found {
-        Found::Answerable(known) => answer_known(alloc, question, known, style),
+        Found::Answerable(known) => answer_known(alloc, options, known, style),
         Found::Unanswerable(reason) => stopped(alloc, reason.as_str()),
     }
 }
@@ -100,12 +87,12 @@ pub(crate) fn answer_question(
 /// Answers a question from all that is known for it.
 fn answer_known(
     alloc: Global,
-    question: &Question,
-    known: &Known,
+    options: &Options,
+    known: &Known<'_>,
     style: Style,
-) -> Result<Answer, PlanFault>
+) -> Result<Answer, AllocError>
     ensures status { IfOk result (λ answer. answer.status ≤ 2) }
-    ensures answer { IfOk result (λ answer. IsAnswerToKnown question.entry.now known.entry.now style (printed_of answer)) }
+    ensures answer { IfOk result (λ answer. IsAnswerToKnown options.entry.now known.entry.now style (printed_of answer)) }
 {
     let Some(local) = known.local.zone() else {
         return stopped(alloc, "the local zone isn't known");
@@ -113,83 +100,69 @@ fn answer_known(
     let Some(shown) = known.shown.zone() else {
         return stopped(alloc, "the local zone isn't known");
     };
-    let asked = asked_by(question, known, style, local, shown);
-    answer_asked(alloc, question, known, asked)
+    let asked = asked_by(options, known, style, local, shown);
+    answer_asked(alloc, known, asked)
 }
 
-/// Returns what a verb needs to know. `local` must be the local zone that is known, and `shown` the zone in which times
-/// are shown.
+/// Returns what all verbs need to know. `local` must be the local zone that is known, and `shown` the zone in which
+/// times are shown.
 fn asked_by<'a>(
-    question: &'a Question,
-    known: &'a Known,
+    options: &Options,
+    known: &'a Known<'_>,
     style: Style,
     local: Zone<'a>,
     shown: Zone<'a>,
 ) -> Asked<'a>
     ensures { clock_zone known.entry.now.local ≡ Some (zone_of local.entry) → clock_zone known.entry.now.shown ≡ Some (zone_of shown.entry)
-        → IsAskedBy question.entry.now known.entry.now style result }
+        → IsAskedBy options.entry.now known.entry.now style result }
 {
     let now = known.now;
     Asked {
         at: Clocked { now, local },
         shown: Clocked { now, local: shown },
         range: &known.range,
-        targets: question.targets.as_slice(),
         unguarded: known.unguarded.as_slice(),
-        count: question.count.unwrap_or(DEFAULT_COUNT),
-        is_all: question.is_all,
-        is_user: question.is_user,
-        is_strict: question.is_strict,
-        is_json: question.is_json,
+        is_user: options.is_user,
+        is_json: options.is_json,
         style,
     }
 }
 
 /// Answers a question: runs the verb, and adds the error lines about unreadable parts of the search path and, except
 /// for `due`, the remarks (see [`with_remarks`]).
-fn answer_asked(
-    alloc: Global,
-    question: &Question,
-    known: &Known,
-    asked: Asked<'_>,
-) -> Result<Answer, PlanFault>
+fn answer_asked(alloc: Global, known: &Known<'_>, asked: Asked<'_>) -> Result<Answer, AllocError>
     ensures status { IfOk result (λ answer. answer.status ≤ 2) }
-    ensures answer { IfOk result (λ answer. IsAnswerAsked question.entry.now known.entry.now asked.entry (printed_of answer)) }
+    ensures answer { IfOk result (λ answer. IsAnswerAsked known.entry.now asked.entry (printed_of answer)) }
 {
     let answer = answer_loaded(alloc, asked, &known.index, &known.loaded)?;
     let answer = with_unreadable(alloc, known.index.unreadable(), answer)?;
     match known.loaded {
         // Any error line makes the service fail, so `due` doesn't add these remarks.
-        LoadedByVerb::Due(_) => Ok(answer),
-        LoadedByVerb::List(_)
-        | LoadedByVerb::Show(_)
-        | LoadedByVerb::Lint(..)
-        | LoadedByVerb::Between(_)
-        | LoadedByVerb::Same(..)
-        | LoadedByVerb::Next(_) => with_remarks(alloc, question, known, answer),
+        LoadedByVerb::Due { .. } => Ok(answer),
+        LoadedByVerb::List { .. }
+        | LoadedByVerb::Show { .. }
+        | LoadedByVerb::Lint { .. }
+        | LoadedByVerb::Between { .. }
+        | LoadedByVerb::Same { .. }
+        | LoadedByVerb::Next { .. } => with_remarks(alloc, known, answer),
     }
 }
 
 /// Adds the remarks: a hint at a misspelled verb, a line for each folder without timers, and a line if the zone file is
 /// missing.
-fn with_remarks(
-    alloc: Global,
-    question: &Question,
-    known: &Known,
-    answer: Answer,
-) -> Result<Answer, PlanFault>
+fn with_remarks(alloc: Global, known: &Known<'_>, answer: Answer) -> Result<Answer, AllocError>
     requires { answer.status ≤ 2 }
     ensures status { IfOk result (λ changed. changed.status ≤ 2) }
-    ensures changed { IfOk result (λ changed. printed_of changed ≡ with_remarks question.entry.now known.entry.now (printed_of answer)) }
+    ensures changed { IfOk result (λ changed. printed_of changed ≡ with_remarks known.entry.now (printed_of answer)) }
 {
-    let answer = with_verb_hint(alloc, question, &known.loaded, answer)?;
-    let answer = with_empty_folders(alloc, question, &known.loaded, answer)?;
-    Ok(with_zone_note(question.verb, &known.local, answer)?)
+    let answer = with_verb_hint(alloc, &known.loaded, answer)?;
+    let answer = with_empty_folders(alloc, &known.loaded, answer)?;
+    with_zone_note(&known.loaded, &known.local, answer)
 }
 
 /// Returns the answer to a question that can't be answered at all: an error line with the reason, and the status
 /// [`UNUSABLE`].
-pub(crate) fn stopped(alloc: Global, reason: &str) -> Result<Answer, PlanFault>
+pub(crate) fn stopped(alloc: Global, reason: &str) -> Result<Answer, AllocError>
     ensures status { IfOk result (λ answer. answer.status ≤ 2) }
     ensures stopped { IfOk result (λ answer. IsStopped reason.now (printed_of answer)) }
 {
@@ -200,22 +173,44 @@ pub(crate) fn stopped(alloc: Global, reason: &str) -> Result<Answer, PlanFault>
     })
 }
 
+/// Answers the question for which this was loaded.
 fn answer_loaded(
     alloc: Global,
     asked: Asked<'_>,
     index: &UnitIndex,
-    loaded: &LoadedByVerb,
-) -> Result<Answer, PlanFault>
+    loaded: &LoadedByVerb<'_>,
+) -> Result<Answer, AllocError>
     ensures status { IfOk result (λ answer. answer.status ≤ 2) }
     ensures answer { IfOk result (λ answer. IsVerbAnswer asked.entry index.now loaded.now (printed_of answer)) }
 {
     match loaded {
-        LoadedByVerb::List(timers) => list(alloc, asked, timers),
-        LoadedByVerb::Show(timers) | LoadedByVerb::Next(timers) => show(alloc, asked, timers),
-        LoadedByVerb::Lint(files, timers) => lint(alloc, asked, index, files, timers),
-        LoadedByVerb::Between(timers) => between(alloc, asked, timers),
-        LoadedByVerb::Same(first, second) => same(alloc, asked, first, second),
-        LoadedByVerb::Due(timer) => due(alloc, asked, timer),
+        LoadedByVerb::List {
+            timers,
+            named,
+            is_all,
+        } => list(alloc, asked, named, *is_all, timers),
+        LoadedByVerb::Show { timers, count, .. } | LoadedByVerb::Next { timers, count, .. } => {
+            show(alloc, asked, *count, timers)
+        }
+        LoadedByVerb::Lint {
+            files,
+            timers,
+            is_strict,
+            ..
+        } => lint(alloc, asked, *is_strict, index, files, timers),
+        LoadedByVerb::Between {
+            timers,
+            from,
+            to,
+            ..
+        } => between(alloc, asked, timers, from, to),
+        LoadedByVerb::Same {
+            first,
+            one,
+            second,
+            other,
+        } => same(alloc, asked, one, other, first, second),
+        LoadedByVerb::Due { timer, named } => due(alloc, asked, *named, timer),
     }
 }
 
@@ -259,7 +254,7 @@ pub(crate) fn with_error_lines(
     alloc: Global,
     loaded: &Loaded,
     out: String,
-) -> Result<Answer, PlanFault>
+) -> Result<Answer, AllocError>
     ensures out { IfOk result (λ answer. answer.out ≡ out) }
     ensures lines { IfOk result (λ answer. HasLoadedLines loaded.now (printed_of answer)) }
     ensures status { IfOk result (λ answer. answer.status ≤ 2) }

@@ -9,13 +9,12 @@ use crate::answer::Answer;
 use crate::whole::answer_on;
 use cal_bytes::{Sink, put_all, put_pieces};
 use cal_machine::Raw;
-use cal_plan::PlanFault;
-use cal_timers_command::{CommandFault, Question, asks_due};
+use cal_timers_command::{Command, CommandFault, asks_due};
 use cal_timers_report::Style;
-use std::alloc::Global;
+use std::alloc::{AllocError, Global};
 use std::convert::AsStr;
 
-/// The exit status if standard output or allocation fails, or if the zone of an expression isn't loaded.
+/// The exit status if standard output or allocation fails.
 const FAILED: u8 = 1;
 
 /// The exit status if the arguments are invalid.
@@ -64,12 +63,8 @@ pub fn answer_arguments<S: System + Drop, T: AsStr, O: Sink, E: Sink>(
             out,
             err,
         ),
-        Err(PlanFault::NoMemory) => {
+        Err(AllocError) => {
             let line = "calendar-timers: out of memory\n";
-            write_answer(is_due, "", line, FAILED, out, err)
-        }
-        Err(PlanFault::NoSuchZone(_)) => {
-            let line = "calendar-timers: a zone isn't loaded\n";
             write_answer(is_due, "", line, FAILED, out, err)
         }
     }
@@ -81,11 +76,11 @@ fn answer_for<S: System + Drop, T: AsStr>(
     system: S,
     arguments: &[T],
     style: Style,
-) -> Result<Answer, PlanFault>
+) -> Result<Answer, AllocError>
     ensures { IfOk result (λ answer. IsToPrint S.gives (map T.text arguments.now) style (printed_of answer)) }
 {
-    match Question::of(alloc, arguments) {
-        Ok(question) => answer_on_system(alloc, system, &question, style),
+    match Command::of(alloc, arguments) {
+        Ok(command) => answer_on_system(alloc, system, &command, style),
         Err(CommandFault::Help(text)) => Ok(Answer {
             out: text,
             err: String::new(alloc),
@@ -96,22 +91,23 @@ fn answer_for<S: System + Drop, T: AsStr>(
             err: text,
             status: USAGE,
         }),
-        Err(CommandFault::NoMemory) => Err(PlanFault::NoMemory),
+        Err(CommandFault::NoMemory) => Err(AllocError),
     }
 }
 
-/// Answers a question about the system or, if the question names a root, about the part of the system below this root.
+/// Answers the question of a command about the system or, if the command names a root, about the part of the system below
+/// this root.
 fn answer_on_system<S: System + Drop>(
     alloc: Global,
     system: S,
-    question: &Question,
+    command: &Command,
     style: Style,
-) -> Result<Answer, PlanFault>
-    ensures { IfOk result (λ answer. (clock : Option ℤ) × IsAnswerOn S.gives question.entry.now clock style (printed_of answer)) }
+) -> Result<Answer, AllocError>
+    ensures { IfOk result (λ answer. (clock : Option ℤ) × IsAnswerOn S.gives command.entry.now clock style (printed_of answer)) }
 {
     let clock = system.clock();
-    let root = String::from_str(alloc, question.root.as_str())?;
-    answer_on(alloc, system.below(root), question, clock, style)
+    let root = String::from_str(alloc, command.options.root.as_str())?;
+    answer_on(alloc, system.below(root), command, clock, style)
 }
 
 /// Writes `answer` to `out` and then `lines` to `err`, and returns the exit status, which is usually `status`. If `out`

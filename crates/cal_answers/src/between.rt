@@ -1,61 +1,33 @@
 //! The verb `between`: all elapses of several timers in a range of time.
 
-ghost use Rattle.std.specs.Prelude.{◌≡◌, ◌≤◌, IfOk, int_lt, map, option_map, slice_get, string_bytes};
+ghost use Rattle.std.specs.Prelude.{◌≡◌, ◌≤◌, IfOk, int_lt, map, string_bytes};
 ghost use Rattle.cal_tasks.specs.declared.when.WhenFault;
 ghost use Rattle.cal_tasks.specs.rules.When.{setting_with, when_in};
 ghost use Rattle.cal_timers_report.specs.rules.ReportView.{elapse_seen};
-ghost use Rattle.cal_answers.specs.rules.Output.{IsAnswerOfTexts, IsAnswerUntil, IsBetweenAnswer, IsRangeAnswer, IsStoppedBy, bad_time, between_output};
+ghost use Rattle.cal_answers.specs.rules.Output.{IsAnswerUntil, IsBetweenAnswer, IsRangeAnswer, IsStoppedBy, bad_time, between_output};
 ghost use Rattle.cal_answers.specs.rules.Printed.{IsStopped, printed_of};
 
 use crate::answer::{Answer, Asked, stopped, with_error_lines};
 use cal_load::Loaded;
-use cal_plan::PlanFault;
 use cal_stamp::StampFault;
 use cal_tasks::{WhenFault, between_rows, read_when};
 use cal_timers_report::{UnitElapse, between_json, between_text};
 use cal_zone::Instant;
 use std::alloc::{AllocError, Global};
 
-/// Lists the elapses of timers in a range. The first two targets are the start of the range, which is included, and its
-/// end, which isn't. An end such as `Mon 06:00` resolves to the first such time after the start. `loaded` is what was
-/// loaded for the other targets.
-pub(crate) fn between(alloc: Global, asked: Asked<'_>, loaded: &Loaded) -> Result<Answer, PlanFault>
-    ensures status { IfOk result (λ answer. answer.status ≤ 2) }
-    ensures answer { IfOk result (λ answer.
-        IsBetweenAnswer asked.entry loaded.now (map string_bytes asked.entry.targets.now) (printed_of answer)) }
-{
-    let from = target_at(asked.targets, 0);
-    let before = target_at(asked.targets, 1);
-    between_texts(alloc, asked, loaded, from, before)
-}
-
-fn target_at(targets: &[String], index: usize) -> Option<&str>
-    ensures { option_map (λ text. text.now) result ≡ slice_get (map string_bytes targets.now) index }
-{
-    match targets.get(index) {
-        Some(target) => Some(target.as_str()),
-        None => None,
-    }
-}
-
-/// Lists the elapses of timers in a range. `from` and `before` are the texts of its start and its end.
-fn between_texts(
+/// Lists the elapses of timers in a range. `from` and `before` are the texts of its start, which is included, and of its
+/// end, which isn't. An end such as `Mon 06:00` resolves to the first such time after the start.
+pub(crate) fn between(
     alloc: Global,
     asked: Asked<'_>,
     loaded: &Loaded,
-    from: Option<&str>,
-    before: Option<&str>,
-) -> Result<Answer, PlanFault>
+    from: &str,
+    before: &str,
+) -> Result<Answer, AllocError>
     ensures status { IfOk result (λ answer. answer.status ≤ 2) }
-    ensures answer { IfOk result (λ answer. IsAnswerOfTexts asked.entry loaded.now
-        (option_map (λ text. text.now) from.entry) (option_map (λ text. text.now) before.entry) (printed_of answer)) }
+    ensures answer { IfOk result (λ answer.
+        IsBetweenAnswer asked.entry loaded.now from.now before.now (printed_of answer)) }
 {
-    let Some(from) = from else {
-        return stopped(alloc, "FROM and TO are missing");
-    };
-    let Some(before) = before else {
-        return stopped(alloc, "FROM and TO are missing");
-    };
     match read_when(alloc, asked.shown, &asked.range.from, asked.shown.now, from) {
         Ok(instant) => between_from(alloc, asked, loaded, instant, before),
         Err(fault) => bad_time(alloc, from, fault),
@@ -69,7 +41,7 @@ fn between_from(
     loaded: &Loaded,
     from: Instant,
     before: &str,
-) -> Result<Answer, PlanFault>
+) -> Result<Answer, AllocError>
     ensures status { IfOk result (λ answer. answer.status ≤ 2) }
     ensures answer { IfOk result (λ answer. IsAnswerUntil asked.entry loaded.now from.secs before.now
         (when_in asked.entry.shown.now.secs (setting_with asked.entry.shown asked.entry.range.now.before) from.secs before.now)
@@ -81,17 +53,17 @@ fn between_from(
     }
 }
 
-fn bad_time(alloc: Global, text: &str, fault: WhenFault) -> Result<Answer, PlanFault>
+fn bad_time(alloc: Global, text: &str, fault: WhenFault) -> Result<Answer, AllocError>
     ensures status { IfOk result (λ answer. answer.status ≤ 2) }
     ensures stopped { IfOk result (λ answer. IsStoppedBy text.now fault (printed_of answer)) }
 {
     match fault {
         WhenFault::NoInstant(fault) => stopped_by(alloc, text, fault),
-        WhenFault::NoMemory => Err(PlanFault::NoMemory),
+        WhenFault::NoMemory => Err(AllocError),
     }
 }
 
-fn stopped_by(alloc: Global, text: &str, fault: StampFault) -> Result<Answer, PlanFault>
+fn stopped_by(alloc: Global, text: &str, fault: StampFault) -> Result<Answer, AllocError>
     ensures status { IfOk result (λ answer. answer.status ≤ 2) }
     ensures stopped { IfOk result (λ answer. IsStopped (bad_time text.now fault) (printed_of answer)) }
 {
@@ -112,7 +84,7 @@ fn between_instants(
     loaded: &Loaded,
     from: Instant,
     before: Instant,
-) -> Result<Answer, PlanFault>
+) -> Result<Answer, AllocError>
     ensures status { IfOk result (λ answer. answer.status ≤ 2) }
     ensures answer { IfOk result (λ answer.
         IsRangeAnswer asked.entry loaded.now from.secs before.secs (int_lt before.secs from.secs) (printed_of answer)) }

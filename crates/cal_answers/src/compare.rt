@@ -1,6 +1,6 @@
 //! The verb `same`: whether two timers elapse at the same instants.
 
-ghost use Rattle.std.specs.Prelude.{◌≡◌, ◌≤◌, ◌++◌, IfOk, OnOk, map, option_map, slice_get, string_bytes};
+ghost use Rattle.std.specs.Prelude.{◌≡◌, ◌≤◌, ◌++◌, IfOk, OnOk, map, option_map, string_bytes};
 ghost use Rattle.std.specs.List.{flat_map};
 ghost use Rattle.cal_tasks.specs.rules.SameReport.{comparison_of};
 ghost use Rattle.cal_timers_report.specs.rules.ReportView.{comparison_seen};
@@ -15,24 +15,25 @@ use crate::answer::{
     push_ignored_lines, push_masked, stopped,
 };
 use cal_load::{Loaded, LoadedTimer, TargetFault, is_path};
-use cal_plan::PlanFault;
 use cal_tasks::compare;
 use cal_timers_report::{Comparison, same_json, same_text};
 use std::alloc::{AllocError, Global};
 
-/// Compares the two timers that the targets name. A folder as a target is an error, even if it has only one timer, and
-/// so is a timer that is masked or can't be loaded.
+/// Compares two timers; `first` is what was loaded for the target `one`, and `second` for `other`. A folder as a target
+/// is an error, even if it has only one timer, and so is a timer that is masked or can't be loaded.
 pub(crate) fn same(
     alloc: Global,
     asked: Asked<'_>,
+    one: &str,
+    other: &str,
     first: &Loaded,
     second: &Loaded,
-) -> Result<Answer, PlanFault>
+) -> Result<Answer, AllocError>
     ensures status { IfOk result (λ answer. answer.status ≤ 2) }
     ensures answer { IfOk result (λ answer.
-        IsSameAnswer asked.entry (map string_bytes asked.entry.targets.now) first.now second.now (printed_of answer)) }
+        IsSameAnswer asked.entry one.now other.now first.now second.now (printed_of answer)) }
 {
-    if let Some(folder) = find_folder(asked.targets, first, second) {
+    if let Some(folder) = folder_of_both(one, other, first, second) {
         let reason = format!(in alloc; "{folder}: a directory, not a timer")?;
         return stopped(alloc, reason.as_str());
     }
@@ -46,12 +47,14 @@ pub(crate) fn same(
 }
 
 /// Returns the first of the two targets that was loaded as a folder, if there is one.
-fn find_folder<'t>(targets: &'t [String], first: &Loaded, second: &Loaded) -> Option<&'t str>
-    ensures { option_map (λ folder. folder.now) result
-        ≡ folder_of_both (slice_get (map string_bytes targets.now) 0) (slice_get (map string_bytes targets.now) 1) first.now second.now }
+fn folder_of_both<'t>(
+    one: &'t str,
+    other: &'t str,
+    first: &Loaded,
+    second: &Loaded,
+) -> Option<&'t str>
+    ensures { option_map (λ folder. folder.now) result ≡ folder_of_both one.now other.now first.now second.now }
 {
-    let one = targets.first()?.as_str();
-    let other = targets.get(1)?.as_str();
     if_folder(one, first).or(if_folder(other, second))
 }
 
@@ -99,7 +102,7 @@ fn compared(
     one: &LoadedTimer,
     other: &LoadedTimer,
     err: String,
-) -> Result<Answer, PlanFault>
+) -> Result<Answer, AllocError>
     ensures status { IfOk result (λ answer. answer.status ≤ 2) }
     ensures answer { IfOk result (λ answer. IsComparedAnswer asked.entry (string_bytes err)
         (comparison_of asked.entry.at one.now other.now) (printed_of answer)) }
@@ -137,7 +140,7 @@ fn same_output(
 
 /// Returns the answer if at least one of two timers couldn't be loaded: the error lines, and a line for each masked
 /// unit, since a masked unit isn't loaded and has no error line.
-fn unloaded(alloc: Global, first: &Loaded, second: &Loaded) -> Result<Answer, PlanFault>
+fn unloaded(alloc: Global, first: &Loaded, second: &Loaded) -> Result<Answer, AllocError>
     ensures status { IfOk result (λ answer. answer.status ≤ 2) }
     ensures answer { IfOk result (λ answer. IsUnloadedPair first.now second.now (printed_of answer)) }
 {

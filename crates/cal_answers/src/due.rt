@@ -1,6 +1,6 @@
 //! The verb `due`: whether the run of a service that starts now is due.
 
-ghost use Rattle.std.specs.Prelude.{◌≡◌, ◌≤◌, IfOk, None, Some, map, option_map, slice_get, string_bytes};
+ghost use Rattle.std.specs.Prelude.{◌≡◌, ◌≤◌, IfOk, None, Some, option_map, string_bytes};
 ghost use Rattle.cal_timers_report.specs.rules.ReportView.{due_seen};
 ghost use Rattle.cal_answers.specs.rules.Output.{IsDueAnswer, IsFirstDue, IsUnloaded, due_output, due_view, folder_of, status_of};
 ghost use Rattle.cal_answers.specs.rules.Printed.{printed_of};
@@ -8,29 +8,31 @@ ghost use Rattle.cal_answers.specs.rules.Printed.{printed_of};
 use crate::answer::{Answer, Asked, INVALID, fault_lines, push_masked, stopped, with_error_lines};
 use crate::compare::if_folder;
 use cal_load::{Loaded, LoadedTimer};
-use cal_plan::PlanFault;
 use cal_tasks::{DueRun, due_run};
 use cal_timers_report::{DueReport, DueVerdict, due_json, due_text};
 use std::alloc::{AllocError, Global};
 
 /// Checks whether the run that starts now is due according to the loaded timer. It is due if no timer started it.
+/// `named` is the target, if there is one.
 pub(crate) fn due(
     alloc: Global,
     asked: Asked<'_>,
+    named: Option<&str>,
     loaded: &Option<Loaded>,
-) -> Result<Answer, PlanFault>
+) -> Result<Answer, AllocError>
     ensures status { IfOk result (λ answer. answer.status ≤ 2) }
-    ensures answer { IfOk result (λ answer. IsDueAnswer asked.entry loaded.now (printed_of answer)) }
+    ensures answer { IfOk result (λ answer.
+        IsDueAnswer asked.entry (option_map (λ name. name.now) named.entry) loaded.now (printed_of answer)) }
 {
     match loaded {
-        Some(timer) => due_by(alloc, asked, timer),
+        Some(timer) => due_by(alloc, asked, named, timer),
         None => by_hand(alloc, asked),
     }
 }
 
-fn by_hand(alloc: Global, asked: Asked<'_>) -> Result<Answer, PlanFault>
+fn by_hand(alloc: Global, asked: Asked<'_>) -> Result<Answer, AllocError>
     ensures status { IfOk result (λ answer. answer.status ≤ 2) }
-    ensures answer { IfOk result (λ answer. IsDueAnswer asked.entry None (printed_of answer)) }
+    ensures answer { IfOk result (λ answer. IsDueAnswer asked.entry None None (printed_of answer)) }
 {
     let report = DueReport {
         unit: None,
@@ -43,13 +45,19 @@ fn by_hand(alloc: Global, asked: Asked<'_>) -> Result<Answer, PlanFault>
     })
 }
 
-/// Checks whether the run is due according to what was loaded for the target. A folder is an error, even if it has only
-/// one timer.
-fn due_by(alloc: Global, asked: Asked<'_>, loaded: &Loaded) -> Result<Answer, PlanFault>
+/// Checks whether the run is due according to what was loaded. A folder as a target is an error, even if it has only one
+/// timer.
+fn due_by(
+    alloc: Global,
+    asked: Asked<'_>,
+    named: Option<&str>,
+    loaded: &Loaded,
+) -> Result<Answer, AllocError>
     ensures status { IfOk result (λ answer. answer.status ≤ 2) }
-    ensures answer { IfOk result (λ answer. IsDueAnswer asked.entry (Some loaded.now) (printed_of answer)) }
+    ensures answer { IfOk result (λ answer.
+        IsDueAnswer asked.entry (option_map (λ name. name.now) named.entry) (Some loaded.now) (printed_of answer)) }
 {
-    if let Some(folder) = find_folder(asked.targets, loaded) {
+    if let Some(folder) = folder_of(named, loaded) {
         let reason = format!(in alloc; "{folder}: a directory, not a timer")?;
         return stopped(alloc, reason.as_str());
     }
@@ -60,10 +68,10 @@ fn due_by(alloc: Global, asked: Asked<'_>, loaded: &Loaded) -> Result<Answer, Pl
 }
 
 /// Returns the target if it was loaded as a folder.
-fn find_folder<'t>(targets: &'t [String], loaded: &Loaded) -> Option<&'t str>
-    ensures { option_map (λ folder. folder.now) result ≡ folder_of (slice_get (map string_bytes targets.now) 0) loaded.now }
+fn folder_of<'t>(named: Option<&'t str>, loaded: &Loaded) -> Option<&'t str>
+    ensures { option_map (λ folder. folder.now) result ≡ folder_of (option_map (λ name. name.now) named.entry) loaded.now }
 {
-    if_folder(targets.first()?.as_str(), loaded)
+    if_folder(named?, loaded)
 }
 
 fn due_by_timer(
@@ -71,7 +79,7 @@ fn due_by_timer(
     asked: Asked<'_>,
     loaded: &Loaded,
     timer: &LoadedTimer,
-) -> Result<Answer, PlanFault>
+) -> Result<Answer, AllocError>
     ensures status { IfOk result (λ answer. answer.status ≤ 2) }
     ensures answer { IfOk result (λ answer. IsFirstDue asked.entry loaded.now (Some timer.now) (printed_of answer)) }
 {
@@ -117,7 +125,7 @@ fn due_output(alloc: Global, asked: Asked<'_>, report: &DueReport<'_>) -> Result
 }
 
 /// Returns the answer if the timer couldn't be loaded: the error lines, and a line about the timer if it is masked.
-fn unloaded(alloc: Global, loaded: &Loaded) -> Result<Answer, PlanFault>
+fn unloaded(alloc: Global, loaded: &Loaded) -> Result<Answer, AllocError>
     ensures status { IfOk result (λ answer. answer.status ≤ 2) }
     ensures answer { IfOk result (λ answer. IsUnloaded loaded.now (printed_of answer)) }
 {

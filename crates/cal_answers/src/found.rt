@@ -9,17 +9,17 @@ use cal_zone::Instant;
 
 /// What was found when reading all that the answer to a question depends on.
 #[derive(Drop)]
-pub enum Found {
+pub enum Found<'q> {
     /// The question can't be answered, for this reason.
     Unanswerable(String),
-    /// All that the answer depends on, apart from the question and the style of the output.
-    Answerable(Known),
+    /// All that the answer depends on, apart from the options and the style of the output.
+    Answerable(Known<'q>),
 }
 
-/// All that the answer to a question depends on, apart from the question and the style of the output.
+/// All that the answer to a question depends on, apart from the options and the style of the output.
 #[derive(Drop)]
-pub struct Known {
-    /// The present: that of the question, or else that of the clock.
+pub struct Known<'q> {
+    /// The present: that of the command, or else that of the clock.
     pub now: Instant,
     /// The local zone: the zone of expressions that name no zone.
     pub local: LocalClock,
@@ -29,24 +29,62 @@ pub struct Known {
     pub range: RangeZones,
     /// The index of the search path of units, or of no folder if no unit is needed.
     pub index: UnitIndex,
-    /// What the targets of the question stand for.
-    pub loaded: LoadedByVerb,
+    /// What was loaded for the question.
+    pub loaded: LoadedByVerb<'q>,
     /// For `list`, `show` and `lint`, the timers whose exceptions systemd ignores. Empty for the other verbs.
     pub unguarded: Vec<UnguardedTimer>,
 }
 
-/// What was loaded for the targets of a question, by its verb.
+/// What was loaded for a question, with what else its verb needs of the question to answer it. `named` are the units,
+/// files and folders that the question names.
 #[derive(Drop)]
-pub enum LoadedByVerb {
-    List(Loaded),
-    Show(Loaded),
-    /// The files, not parsed, and the timers. A drop-in that is a target is only among the files.
-    Lint(LoadedFiles, Loaded),
-    Between(Loaded),
-    /// What the first target and the second target stand for.
-    Same(Loaded, Loaded),
-    Next(Loaded),
-    /// What the target of `due` stands for or, without a target, the timer that started the service. `None` if there is
-    /// no target and no timer started the service.
-    Due(Option<Loaded>),
+pub enum LoadedByVerb<'q> {
+    List {
+        timers: Loaded,
+        named: &'q [String],
+        /// Whether `--all` is given.
+        is_all: bool,
+    },
+    Show {
+        timers: Loaded,
+        named: &'q [String],
+        /// The maximum number of elapses to show.
+        count: u32,
+    },
+    Lint {
+        /// The files, not parsed.
+        files: LoadedFiles,
+        /// The timers. A drop-in that is named is only among the files.
+        timers: Loaded,
+        named: &'q [String],
+        /// Whether a warning gives the status 1.
+        is_strict: bool,
+    },
+    Between {
+        timers: Loaded,
+        named: &'q [String],
+        /// The text of the range's start.
+        from: &'q str,
+        /// The text of the range's end.
+        to: &'q str,
+    },
+    Same {
+        first: Loaded,
+        /// What `first` was loaded for.
+        one: &'q str,
+        second: Loaded,
+        /// What `second` was loaded for.
+        other: &'q str,
+    },
+    Next {
+        timers: Loaded,
+        expressions: &'q [String],
+        /// The maximum number of elapses to show.
+        count: u32,
+    },
+    Due {
+        /// The timer that is named or, if none is, the timer that started the service. `None` if there is neither.
+        timer: Option<Loaded>,
+        named: Option<&'q str>,
+    },
 }

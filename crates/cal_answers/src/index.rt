@@ -1,39 +1,38 @@
 //! The index of the search path, which is needed if a question is about units, and the errors that are found while it
 //! is read.
 
-ghost use Rattle.std.specs.Prelude.{◌≡◌, ◌≤◌, IfOk, map, max, string_bytes, true};
+ghost use Rattle.std.specs.Prelude.{◌≡◌, ◌≤◌, IfOk, map, max, option_map, string_bytes, true};
 ghost use Rattle.cal_machine.specs.rules.Machine.{Machine};
 ghost use Rattle.cal_timers_text.specs.rules.ErrorLines.{fault_line, reason_words, subject_line, unread_words};
 ghost use Rattle.cal_unit_index.specs.rules.Index.{IsIndexOf, shown_fault};
 ghost use Rattle.cal_answers.specs.rules.LintTimers.{path_words};
 ghost use Rattle.cal_answers.specs.rules.ErrorText.{fault_lines, unreadable_lines};
 ghost use Rattle.cal_answers.specs.rules.Printed.{printed_of, with_errors};
-ghost use Rattle.cal_answers.specs.rules.Found.{IsIndexFor, has_name, name_units, needs_units, timer_targets};
+ghost use Rattle.cal_answers.specs.rules.Found.{IsIndexFor, has_name, name_units, needs_units};
 
 use crate::answer::{Answer, fault_lines, with_errors};
 use cal_load::{TargetFault, TargetReason, is_path};
 use cal_machine::Tree;
-use cal_plan::PlanFault;
-use cal_timers_command::Verb;
+use cal_timers_command::Question;
 use cal_unit_index::{UnitFault, UnitIndex};
 use std::alloc::{AllocError, Global};
 
 /// Reads the index of the search path. If the question can't be about units, returns the index of an empty search path,
-/// so that no folder is read.
+/// so that no folder is read. `about` is the timer that `due` is about.
 pub(crate) fn index_for<T: Tree>(
     alloc: Global,
     tree: &mut T,
-    verb: Verb,
+    question: &Question,
+    about: Option<&str>,
     path: &[String],
-    targets: &[&str],
 ) -> Result<UnitIndex, AllocError>
     ensures known { IfOk result (λ index. (machine : Machine) → T.shows tree.new machine
         → IsIndexFor machine (map string_bytes path.now) index) }
-    ensures whole { needs_units verb (map (λ text. text.now) targets.now) ≡ true → IfOk result (λ index. (machine : Machine)
+    ensures whole { needs_units question.entry.now (option_map (λ name. name.now) about.entry) ≡ true → IfOk result (λ index. (machine : Machine)
         → T.shows tree.new machine → IsIndexOf machine (map string_bytes path.now) index) }
     ensures grows { (machine : Machine) → T.shows tree.new machine → T.shows tree.old machine }
 {
-    if has_units(verb, targets) {
+    if needs_units(question, about) {
         UnitIndex::read(alloc, tree, path)
     } else {
         UnitIndex::read(alloc, tree, &[])
@@ -41,45 +40,35 @@ pub(crate) fn index_for<T: Tree>(
 }
 
 /// Returns whether a question can be about units: it names no timers, so that it is about the units that other units
-/// start or about all units, or at least one of its targets isn't a path. `next` is never about units, since its
-/// targets are expressions. `due` is about a unit only if it has a target that isn't a path.
-fn has_units(verb: Verb, targets: &[&str]) -> bool
-    ensures { result ≡ needs_units verb (map (λ text. text.now) targets.now) }
+/// start or about all units, or at least one name isn't a path. `next` is never about units, since it names expressions.
+fn needs_units(question: &Question, about: Option<&str>) -> bool
+    ensures { result ≡ needs_units question.entry.now (option_map (λ name. name.now) about.entry) }
 {
-    match verb {
-        Verb::Next => false,
-        Verb::Due => has_name(targets),
-        Verb::Between => name_units(timers_of(verb, targets)),
-        Verb::List | Verb::Show | Verb::Lint | Verb::Same => name_units(targets),
+    match question {
+        Question::List { timers, .. }
+        | Question::Show { timers, .. }
+        | Question::Lint { timers, .. }
+        | Question::Between { timers, .. } => name_units(timers.as_slice()),
+        Question::Same { one, other } => !is_path(one.as_str()) || !is_path(other.as_str()),
+        Question::Next { .. } => false,
+        Question::Due { .. } => match about {
+            Some(name) => !is_path(name),
+            None => false,
+        },
     }
 }
 
-fn name_units(timers: &[&str]) -> bool
-    ensures { result ≡ name_units (map (λ text. text.now) timers.now) }
+fn name_units(named: &[String]) -> bool
+    ensures { result ≡ name_units (map string_bytes named.now) }
 {
-    timers.is_empty() || has_name(timers)
+    named.is_empty() || has_name(named)
 }
 
-/// Returns whether at least one of the targets is not a path.
-fn has_name(targets: &[&str]) -> bool
-    ensures { result ≡ has_name (map (λ text. text.now) targets.now) }
+/// Returns whether at least one of these texts is not a path.
+fn has_name(named: &[String]) -> bool
+    ensures { result ≡ has_name (map string_bytes named.now) }
 {
-    for target in targets {
-        if !is_path(target) {
-            return true;
-        }
-    }
-    false
-}
-
-/// Returns the targets that name timers: all of them or, for `between`, those after the first two, which are times.
-pub(crate) fn timers_of<'t>(verb: Verb, targets: &'t [&'t str]) -> &'t [&'t str]
-    ensures { result.now ≡ timer_targets verb targets.now }
-{
-    match verb {
-        Verb::Between => targets.get(2..).unwrap_or(&[]),
-        _ => targets,
-    }
+    named.iter().any(|text| !is_path(text.as_str()))
 }
 
 /// Adds an error line to an answer for each folder, file or link of the search path that can't be read. Unless such a
@@ -88,13 +77,13 @@ pub(crate) fn with_unreadable(
     alloc: Global,
     unreadable: &[UnitFault],
     answer: Answer,
-) -> Result<Answer, PlanFault>
+) -> Result<Answer, AllocError>
     ensures status { IfOk result (λ changed. changed.status ≤ max answer.status 1) }
     ensures changed { IfOk result (λ changed. printed_of changed ≡ with_errors (unreadable_lines unreadable.now) (printed_of answer)) }
 {
     let faults = target_faults(alloc, unreadable)?;
     let lines = fault_lines(alloc, faults.as_slice())?;
-    Ok(with_errors(answer, lines.as_str())?)
+    with_errors(answer, lines.as_str())
 }
 
 /// Converts errors about paths to [`TargetFault`]s, the form in which errors about targets are reported.

@@ -25,7 +25,6 @@ use crate::setting_problems::add_missing_units;
 use crate::timer_problems::{add_failed, add_idle, add_ignored_of};
 use cal_lint::findings;
 use cal_load::{Loaded, LoadedFiles, TargetFault};
-use cal_plan::PlanFault;
 use cal_tasks::Clocked;
 use cal_timers_report::Style;
 use cal_timers_text::{ProblemCounts, unread_words};
@@ -38,16 +37,18 @@ const MAX_TEXT: usize = 3 * 1_048_576;
 
 /// Returns all problems of the files, each file checked by itself; then what is wrong with the timers that are made of
 /// them; then warnings about expressions and exceptions that have no effect; and then warnings about exceptions that
-/// systemd ignores. `index` is the index of the search path.
+/// systemd ignores. `index` is the index of the search path, and `is_strict` says whether a warning gives the status
+/// [`INVALID`].
 pub(crate) fn lint(
     alloc: Global,
     asked: Asked<'_>,
+    is_strict: bool,
     index: &UnitIndex,
     files: &LoadedFiles,
     timers: &Loaded,
-) -> Result<Answer, PlanFault>
+) -> Result<Answer, AllocError>
     ensures status { IfOk result (λ answer. answer.status ≤ 2) }
-    ensures prints { IfOk result (λ answer. IsLintBy asked.entry index.now files.now timers.now (string_bytes answer.out) (string_bytes answer.err) answer.status) }
+    ensures prints { IfOk result (λ answer. IsLintBy asked.entry is_strict index.now files.now timers.now (string_bytes answer.out) (string_bytes answer.err) answer.status) }
     ensures lines { IfOk result (λ answer. string_bytes answer.err ≡ lint_lines files.now.faults.items timers.now.faults.items) }
 {
     let mut problems = Problems::new(alloc);
@@ -63,7 +64,7 @@ pub(crate) fn lint(
     )?;
     let err = error_lines(alloc, files.faults.as_slice(), timers.faults.as_slice())?;
     let counts = problems.counts();
-    let status = lint_status(asked.is_strict, counts, has_lines(err.as_str()));
+    let status = lint_status(is_strict, counts, has_lines(err.as_str()));
     let lacking = unread(alloc, index, files, timers)?;
     let out = lint_output(alloc, asked, lacking.as_slice(), problems)?;
     Ok(Answer { out, err, status })
@@ -103,7 +104,7 @@ fn problems_of_timers(
     at: Clocked<'_>,
     index: &UnitIndex,
     timers: &Loaded,
-) -> Result<Vec<Candidate>, PlanFault>
+) -> Result<Vec<Candidate>, AllocError>
     ensures { IfOk result (λ found. (machine : Machine) (path : List (List ℕ)) → IsIndexOf machine path index.now
         → map shown_candidate found.items ≡ problems_of_timers at.entry machine path timers.now) }
 {

@@ -1,59 +1,159 @@
-//! Loading what the targets of a question stand for.
+//! Loading what a question names.
 
-ghost use Rattle.std.specs.Prelude.{◌≡◌, ℕ, Bool, List, [], All, IfOk, length, map, true};
+ghost use Rattle.std.specs.Prelude.{◌≡◌, ℕ, List, [], All, IfOk, map, option_map, string_bytes};
 ghost use Rattle.cal_machine.specs.rules.Machine.{Machine};
 ghost use Rattle.cal_unit_index.specs.rules.Index.{IsIndexOf};
-ghost use Rattle.cal_load.specs.rules.Loaded.{IsTimerOn};
-ghost use Rattle.cal_answers.specs.rules.Found.{AreAll, AreLoadedOn, HasUnits, IsSideOn, verb_of};
-ghost use Rattle.cal_timers_command.specs.rules.Questions.{fits_verb};
+ghost use Rattle.cal_load.specs.rules.Expressions.{IsTimerOrReason};
+ghost use Rattle.cal_load.specs.rules.Loaded.{IsStoredOn, IsTimerOn};
+ghost use Rattle.cal_answers.specs.rules.Found.{AreAll, AreFilesOn, AreLoadedOn, AreMadeOf, AreTimersOn, HasAllFor, HasAllLinted, HasDue, HasUnits, IsDueOn, IsLoadedFor, IsSideOn, asks_all};
 
 use crate::found::LoadedByVerb;
-use crate::index::timers_of;
-use cal_load::{Loaded, TargetReason, load_expressions, load_files, load_timers};
+use cal_load::{Loaded, LoadedFiles, TargetReason, load_expressions, load_files, load_timers};
 use cal_machine::Tree;
-use cal_timers_command::Verb;
+use cal_timers_command::Question;
 use cal_unit_index::UnitIndex;
 use std::alloc::{AllocError, Global};
 
-/// Loads what the targets of a question stand for. If `list` or `lint` has no targets, or `between` has none but its
-/// two times, loads the timers that other units start or, if `is_all`, all timers in the search path. `index` is the
-/// index of the search path.
-pub(crate) fn load_by_verb<T: Tree>(
+/// Loads what a question names. If `list`, `lint` or `between` names no timers, loads the timers that other units start
+/// or, with `--all`, all timers in the search path. `index` is the index of the search path, and `about` is the timer
+/// that `due` is about.
+pub(crate) fn load_by_verb<'q, T: Tree>(
     alloc: Global,
     tree: &mut T,
     index: &UnitIndex,
-    verb: Verb,
-    targets: &[&str],
-    is_all: bool,
-) -> Result<LoadedByVerb, AllocError>
-    requires { fits_verb verb (length targets.now) ≡ true }
-    ensures verb { IfOk result (λ loaded. verb_of loaded ≡ verb) }
+    question: &'q Question,
+    about: Option<&str>,
+) -> Result<LoadedByVerb<'q>, AllocError>
+    ensures question { IfOk result (IsLoadedFor question.entry.now) }
     ensures known { IfOk result (λ loaded. (machine : Machine) (path : List (List ℕ)) → T.shows tree.new machine
-        → IsIndexOf machine path index.now → AreLoadedOn machine path (map (λ text. text.now) targets.now) loaded) }
-    ensures whole { IfOk result (AreAll (λ machine path. T.shows tree.new machine × IsIndexOf machine path index.now) is_all
-        (map (λ text. text.now) targets.now)) }
+        → IsIndexOf machine path index.now → AreLoadedOn machine path (option_map (λ name. name.now) about.entry) loaded) }
+    ensures whole { IfOk result (AreAll (λ machine path. T.shows tree.new machine × IsIndexOf machine path index.now)
+        (asks_all question.entry.now) (option_map (λ name. name.now) about.entry)) }
     ensures grows { (machine : Machine) → T.shows tree.new machine → T.shows tree.old machine }
 {
-    match verb {
-        Verb::List => Ok(LoadedByVerb::List(load_timers(alloc, tree, index, targets, is_all)?)),
-        Verb::Show => Ok(LoadedByVerb::Show(load_timers(alloc, tree, index, targets, is_all)?)),
-        Verb::Lint => {
-            let files = load_files(alloc, tree, index, targets, is_all)?;
-            let timers = load_whole_timers(alloc, tree, index, targets, is_all)?;
-            Ok(LoadedByVerb::Lint(files, timers))
+    match question {
+        Question::List { timers, is_all } => Ok(LoadedByVerb::List {
+            timers: load_named(alloc, tree, index, timers.as_slice(), *is_all)?,
+            named: timers.as_slice(),
+            is_all: *is_all,
+        }),
+        Question::Show { timers, count } => Ok(LoadedByVerb::Show {
+            timers: load_named(alloc, tree, index, timers.as_slice(), false)?,
+            named: timers.as_slice(),
+            count: *count,
+        }),
+        Question::Between {
+            from,
+            to,
+            timers,
+            is_all,
+        } => Ok(LoadedByVerb::Between {
+            timers: load_named(alloc, tree, index, timers.as_slice(), *is_all)?,
+            named: timers.as_slice(),
+            from: from.as_str(),
+            to: to.as_str(),
+        }),
+        Question::Lint {
+            timers,
+            is_all,
+            is_strict,
+        } => {
+            let (files, whole) = load_linted(alloc, tree, index, timers.as_slice(), *is_all)?;
+            Ok(LoadedByVerb::Lint {
+                files,
+                timers: whole,
+                named: timers.as_slice(),
+                is_strict: *is_strict,
+            })
         }
-        Verb::Between => {
-            let timers = timers_of(verb, targets);
-            Ok(LoadedByVerb::Between(load_timers(alloc, tree, index, timers, is_all)?))
+        Question::Same { one, other } => {
+            let one = one.as_str();
+            let other = other.as_str();
+            let (first, second) = load_sides(alloc, tree, index, one, other)?;
+            Ok(LoadedByVerb::Same {
+                first,
+                one,
+                second,
+                other,
+            })
         }
-        Verb::Same => load_sides(alloc, tree, index, targets),
-        Verb::Next => Ok(LoadedByVerb::Next(load_expressions(alloc, tree, targets)?)),
-        Verb::Due => load_due(alloc, tree, index, targets),
+        Question::Next { expressions, count } => {
+            let expressions = expressions.as_slice();
+            let timers = load_named_expressions(alloc, tree, expressions)?;
+            Ok(LoadedByVerb::Next {
+                timers,
+                expressions,
+                count: *count,
+            })
+        }
+        Question::Due { timer } => Ok(LoadedByVerb::Due {
+            timer: load_due(alloc, tree, index, about)?,
+            named: timer.as_deref(),
+        }),
     }
 }
 
-/// Loads the timers that the targets name, except targets that end in `.conf`: a drop-in is not a timer by itself. If
-/// there are no targets, loads the timers that other units start or, if `is_all` is `true`, all timers.
+/// Loads the timers with these names or, if there are none, the timers that other units start or, if `is_all` is `true`,
+/// all timers.
+fn load_named<T: Tree>(
+    alloc: Global,
+    tree: &mut T,
+    index: &UnitIndex,
+    named: &[String],
+    is_all: bool,
+) -> Result<Loaded, AllocError>
+    ensures known { IfOk result (λ loaded. (machine : Machine) (path : List (List ℕ)) → T.shows tree.new machine
+        → IsIndexOf machine path index.now → AreTimersOn machine path loaded) }
+    ensures whole { IfOk result (HasAllFor (λ machine path. T.shows tree.new machine × IsIndexOf machine path index.now) is_all
+        (map string_bytes named.now)) }
+    ensures grows { (machine : Machine) → T.shows tree.new machine → T.shows tree.old machine }
+{
+    let texts = texts_of(alloc, named)?;
+    let loaded = load_timers(alloc, tree, index, texts.as_slice(), is_all)?;
+    Ok(loaded)
+}
+
+/// Loads the timers made of these expressions, each of one.
+fn load_named_expressions<T: Tree>(
+    alloc: Global,
+    tree: &mut T,
+    expressions: &[String],
+) -> Result<Loaded, AllocError>
+    ensures known { IfOk result (λ loaded. (machine : Machine) → T.shows tree.new machine
+        → AreMadeOf machine (map string_bytes expressions.now) loaded) }
+    ensures outcome { IfOk result (IsTimerOrReason (λ machine. T.shows tree.new machine) (map string_bytes expressions.now)) }
+    ensures grows { (machine : Machine) → T.shows tree.new machine → T.shows tree.old machine }
+{
+    let texts = texts_of(alloc, expressions)?;
+    let loaded = load_expressions(alloc, tree, texts.as_slice())?;
+    Ok(loaded)
+}
+
+/// Loads the files with these names, and the timers that are made of them. If there are no names, loads the files and the
+/// timers that other units start or, if `is_all` is `true`, all of them.
+fn load_linted<T: Tree>(
+    alloc: Global,
+    tree: &mut T,
+    index: &UnitIndex,
+    named: &[String],
+    is_all: bool,
+) -> Result<(LoadedFiles, Loaded), AllocError>
+    ensures known { IfOk result (λ both. (machine : Machine) (path : List (List ℕ)) → T.shows tree.new machine
+        → IsIndexOf machine path index.now → All (IsStoredOn machine) both.0.files.items × AreTimersOn machine path both.1) }
+    ensures whole { IfOk result (λ both. HasAllLinted (λ machine path. T.shows tree.new machine × IsIndexOf machine path index.now) is_all
+        (map string_bytes named.now) both.1) }
+    ensures files { IfOk result (λ both. (machine : Machine) (path : List (List ℕ)) → T.shows tree.new machine
+        → IsIndexOf machine path index.now → AreFilesOn machine path is_all (map string_bytes named.now) both.0) }
+    ensures grows { (machine : Machine) → T.shows tree.new machine → T.shows tree.old machine }
+{
+    let texts = texts_of(alloc, named)?;
+    let files = load_files(alloc, tree, index, texts.as_slice(), is_all)?;
+    let timers = load_whole_timers(alloc, tree, index, texts.as_slice(), is_all)?;
+    Ok((files, timers))
+}
+
+/// Loads the timers with these names, except names that end in `.conf`: a drop-in is not a timer by itself. If there are
+/// no names, loads the timers that other units start or, if `is_all` is `true`, all timers.
 fn load_whole_timers<T: Tree>(
     alloc: Global,
     tree: &mut T,
@@ -85,22 +185,21 @@ fn load_whole_timers<T: Tree>(
     load_timers(alloc, tree, index, timers.as_slice(), is_all)
 }
 
-/// Loads the two timers that the targets of `same` name.
+/// Loads the two timers that `same` compares.
 fn load_sides<T: Tree>(
     alloc: Global,
     tree: &mut T,
     index: &UnitIndex,
-    targets: &[&str],
-) -> Result<LoadedByVerb, AllocError>
-    requires { length targets.now ≡ 2 }
-    ensures verb { IfOk result (λ loaded. verb_of loaded ≡ Verb.Same) }
-    ensures known { IfOk result (λ loaded. (machine : Machine) (path : List (List ℕ)) → T.shows tree.new machine
-        → IsIndexOf machine path index.now → AreLoadedOn machine path (map (λ text. text.now) targets.now) loaded) }
+    one: &str,
+    other: &str,
+) -> Result<(Loaded, Loaded), AllocError>
+    ensures known { IfOk result (λ both. (machine : Machine) (path : List (List ℕ)) → T.shows tree.new machine
+        → IsIndexOf machine path index.now → IsSideOn machine path one.now both.0 × IsSideOn machine path other.now both.1) }
     ensures grows { (machine : Machine) → T.shows tree.new machine → T.shows tree.old machine }
 {
-    let first = load_side(alloc, tree, index, targets[0])?;
-    let second = load_side(alloc, tree, index, targets[1])?;
-    Ok(LoadedByVerb::Same(first, second))
+    let first = load_side(alloc, tree, index, one)?;
+    let second = load_side(alloc, tree, index, other)?;
+    Ok((first, second))
 }
 
 /// Loads a unit or a file. If neither exists, loads the target as an expression. If that fails too, returns the error
@@ -134,18 +233,27 @@ fn load_due<T: Tree>(
     alloc: Global,
     tree: &mut T,
     index: &UnitIndex,
-    targets: &[&str],
-) -> Result<LoadedByVerb, AllocError>
-    ensures verb { IfOk result (λ loaded. verb_of loaded ≡ Verb.Due) }
-    ensures known { IfOk result (λ loaded. (machine : Machine) (path : List (List ℕ)) → T.shows tree.new machine
-        → IsIndexOf machine path index.now → AreLoadedOn machine path (map (λ text. text.now) targets.now) loaded) }
-    ensures whole { (is_all : Bool) → IfOk result (AreAll (λ machine path. T.shows tree.new machine × IsIndexOf machine path index.now) is_all
-        (map (λ text. text.now) targets.now)) }
+    about: Option<&str>,
+) -> Result<Option<Loaded>, AllocError>
+    ensures known { IfOk result (λ timer. (machine : Machine) (path : List (List ℕ)) → T.shows tree.new machine
+        → IsIndexOf machine path index.now → IsDueOn machine path (option_map (λ name. name.now) about.entry) timer) }
+    ensures whole { IfOk result (HasDue (λ machine path. T.shows tree.new machine × IsIndexOf machine path index.now)
+        (option_map (λ name. name.now) about.entry)) }
     ensures grows { (machine : Machine) → T.shows tree.new machine → T.shows tree.old machine }
 {
-    if targets.is_empty() {
-        return Ok(LoadedByVerb::Due(None));
+    let Some(name) = about else {
+        return Ok(None);
+    };
+    let timer = load_timers(alloc, tree, index, &[name], false)?;
+    Ok(Some(timer))
+}
+
+fn texts_of(alloc: Global, texts: &[String]) -> Result<Vec<&str>, AllocError>
+    ensures { IfOk result (λ copies. map (λ text. text.now) copies.items ≡ map string_bytes texts.now) }
+{
+    let mut copies = Vec::new(alloc);
+    for text in texts {
+        copies.push(text.as_str())?;
     }
-    let timer = load_timers(alloc, tree, index, targets, false)?;
-    Ok(LoadedByVerb::Due(Some(timer)))
+    Ok(copies)
 }

@@ -1,17 +1,17 @@
 //! The zones that the start and the end of a range name.
 
-ghost use Rattle.std.specs.Prelude.{◌≡◌, IfOk, MatchOption, false, is_some, map, slice_get};
+ghost use Rattle.std.specs.Prelude.{◌≡◌, IfOk, MatchOption, false, is_some};
 ghost use Rattle.cal_civil.specs.rules.ZoneName.{is_zone_name};
 ghost use Rattle.cal_machine.specs.rules.Machine.{Machine};
 ghost use Rattle.cal_zone.specs.rules.ZoneTable.{zone_named};
 ghost use Rattle.cal_zone_files.specs.declared.fault.FileReason.{FileReason};
 ghost use Rattle.cal_zone_files.specs.rules.ZoneFiles.{HasZonesOf, IsReasonOn};
-ghost use Rattle.cal_answers.specs.rules.RangeZones.{AreRangeZones, HasZoneAtEnd, IsTableOf, last_part, range_text, text_or_none};
+ghost use Rattle.cal_answers.specs.rules.RangeZones.{AreRangeZones, HasZoneAtEnd, IsTableOf, last_part, range_end, range_start};
 
 use crate::local_clock::only;
 use cal_bytes::last_word;
 use cal_machine::Tree;
-use cal_timers_command::Verb;
+use cal_timers_command::Question;
 use cal_zone::{ZoneName, ZoneTable};
 use cal_zone_files::{ZonesFault, load_zones};
 use std::alloc::{AllocError, Global};
@@ -26,41 +26,50 @@ pub struct RangeZones {
 }
 
 impl RangeZones {
-    /// Loads the zones that the first two targets of `between` name. For other verbs, loads none. A zone whose file
-    /// can't be used is left out, so parsing the start or the end of the range fails as for an unknown zone.
+    /// Loads the zones that the start and the end of the range of `between` name. For other verbs, loads none. A zone
+    /// whose file can't be used is left out, so parsing the start or the end of the range fails as for an unknown zone.
     pub(crate) fn load<T: Tree>(
         alloc: Global,
         tree: &mut T,
-        verb: Verb,
-        targets: &[&str],
+        question: &Question,
     ) -> Result<RangeZones, AllocError>
         ensures zones { IfOk result (λ zones. (machine : Machine) → T.shows tree.new machine
-            → AreRangeZones machine verb (map (λ text. text.now) targets.now) zones) }
+            → AreRangeZones machine question.entry.now zones) }
         ensures grows { (machine : Machine) → T.shows tree.new machine → T.shows tree.old machine }
     {
-        let from = zone_at_end(alloc, tree, range_text(verb, targets, 0))?;
-        let before = zone_at_end(alloc, tree, range_text(verb, targets, 1))?;
+        let from = zone_at_end(alloc, tree, range_start(question))?;
+        let before = zone_at_end(alloc, tree, range_end(question))?;
         Ok(RangeZones { from, before })
     }
 }
 
-/// Returns the text of the range's start (`index` 0) or end (`index` 1) if the verb is `between`, and otherwise an
-/// empty text.
-fn range_text<'t>(verb: Verb, targets: &'t [&'t str], index: usize) -> &'t str
-    ensures { result.now ≡ range_text verb (map (λ text. text.now) targets.now) index }
+/// Returns the text of the range's start if the verb is `between`, and otherwise an empty text.
+fn range_start(question: &Question) -> &str
+    ensures { result.now ≡ range_start question.entry.now }
 {
-    match verb {
-        Verb::Between => text_at(targets, index),
-        Verb::List | Verb::Show | Verb::Lint | Verb::Same | Verb::Next | Verb::Due => "",
+    match question {
+        Question::Between { from, .. } => from.as_str(),
+        Question::List { .. }
+        | Question::Show { .. }
+        | Question::Lint { .. }
+        | Question::Same { .. }
+        | Question::Next { .. }
+        | Question::Due { .. } => "",
     }
 }
 
-fn text_at<'t>(texts: &'t [&'t str], index: usize) -> &'t str
-    ensures { result.now ≡ text_or_none (slice_get (map (λ text. text.now) texts.now) index) }
+/// Returns the text of the range's end if the verb is `between`, and otherwise an empty text.
+fn range_end(question: &Question) -> &str
+    ensures { result.now ≡ range_end question.entry.now }
 {
-    match texts.get(index) {
-        Some(text) => text,
-        None => "",
+    match question {
+        Question::Between { to, .. } => to.as_str(),
+        Question::List { .. }
+        | Question::Show { .. }
+        | Question::Lint { .. }
+        | Question::Same { .. }
+        | Question::Next { .. }
+        | Question::Due { .. } => "",
     }
 }
 

@@ -1,6 +1,6 @@
 //! Reading all that the answer to a question depends on.
 
-ghost use Rattle.std.specs.Prelude.{◌≡◌, ◌≢◌, IfErr, IfOk, Some, map, option_map, string_bytes};
+ghost use Rattle.std.specs.Prelude.{◌≡◌, ◌≢◌, IfErr, IfOk, Some, option_map};
 ghost use Rattle.std.specs.Option.{option_or};
 ghost use Rattle.cal_machine.specs.rules.Machine.{Machine};
 ghost use Rattle.cal_answers.specs.rules.Found.{IsFoundBy, IsKnownOn};
@@ -15,74 +15,61 @@ use crate::loading::load_by_verb;
 use crate::local_clock::LocalClock;
 use crate::range_zones::RangeZones;
 use crate::search_path::search_path;
-use crate::trigger::targets_on;
+use crate::trigger::due_on;
 use crate::unguarded::unguarded_on;
 use cal_machine::{Entry, Raw, Recorder, Tree, TreeFault};
-use cal_timers_command::{Question, Verb};
+use cal_timers_command::{Command, Options, Question};
 use cal_timers_text::zones_text;
 use cal_zone::Instant;
 use cal_zone_files::{Origin, ZonesFault};
 use std::alloc::{AllocError, Global};
 
-/// Reads all that the answer to a question depends on: the zones, the search path, and the timers and files that the
-/// targets stand for. Each question about the machine is asked of `raw` at most once.
+/// Reads all that the answer to the question of a command depends on: the zones, the search path, and the timers and
+/// files that the question names. Each question about the machine is asked of `raw` at most once.
 ///
 /// `clock` is the time that the machine's clock shows, in seconds of Unix time, or `None` if the clock can't be read.
-/// If the question names a present, `clock` isn't used. Fails only if allocation fails.
-pub(crate) fn read_question<R: Raw + Drop>(
+/// If the command names a present, `clock` isn't used. Fails only if allocation fails.
+pub(crate) fn read_question<'q, R: Raw + Drop>(
     alloc: Global,
     raw: R,
-    question: &Question,
+    command: &'q Command,
     clock: Option<i64>,
-) -> Result<Found, AllocError>
-    ensures { IfOk result (IsFoundBy R.gives question.entry.now clock) }
+) -> Result<Found<'q>, AllocError>
+    ensures { IfOk result (IsFoundBy R.gives command.entry.now clock) }
 {
     let mut tree = Recorder::new(alloc, raw);
-    match read_known(alloc, &mut tree, question, clock) {
+    match read_known(alloc, &mut tree, command, clock) {
         Ok(known) => Ok(Found::Answerable(known)),
         Err(ReadFault::Unanswerable(reason)) => Ok(Found::Unanswerable(reason)),
         Err(ReadFault::NoMemory) => Err(AllocError),
     }
 }
 
-fn read_known<T: Tree>(
+fn read_known<'q, T: Tree>(
     alloc: Global,
     tree: &mut T,
-    question: &Question,
+    command: &'q Command,
     clock: Option<i64>,
-) -> Result<Known, ReadFault>
-    ensures present { IfOk result (λ known. IsPresent (option_or question.entry.now.now clock) (Some known.now)) }
-    ensures known { IfOk result (λ known. (machine : Machine) → T.shows tree.new machine → IsKnownOn machine question.entry.now known) }
+) -> Result<Known<'q>, ReadFault>
+    ensures present { IfOk result (λ known. IsPresent (option_or command.entry.now.options.now clock) (Some known.now)) }
+    ensures known { IfOk result (λ known. (machine : Machine) → T.shows tree.new machine → IsKnownOn machine command.entry.now known) }
     ensures fault { IfErr result (λ fault. fault ≢ ReadFault.NoMemory → (machine : Machine) → T.shows tree.new machine
-        → IsUnanswerableOn machine question.entry.now clock) }
+        → IsUnanswerableOn machine command.entry.now clock) }
     ensures grows { (machine : Machine) → T.shows tree.new machine → T.shows tree.old machine }
 {
-    let Some(now) = present(question.now, clock) else {
+    let Some(now) = present(command.options.now, clock) else {
         return Err(ReadFault::reason(alloc, "the clock shows a time before 1970 or after 2199"));
     };
-    check_root(alloc, tree, question.root.as_str())?;
-    let local = find_local(alloc, tree, question)?;
-    let shown = find_shown(alloc, tree, question)?;
-    let path = search_path(alloc, tree, question.is_user)?;
-    let named = targets_on(alloc, tree, question.verb, question.targets.as_slice())?;
-    let targets = texts_of(alloc, named.as_slice())?;
-    let range = RangeZones::load(alloc, tree, question.verb, targets.as_slice())?;
-    let index = index_for(
-        alloc,
-        tree,
-        question.verb,
-        path.as_slice(),
-        targets.as_slice(),
-    )?;
-    let loaded = load_by_verb(
-        alloc,
-        tree,
-        &index,
-        question.verb,
-        targets.as_slice(),
-        question.is_all,
-    )?;
-    let unguarded = unguarded_on(alloc, tree, &index, question.is_user, &loaded)?;
+    check_root(alloc, tree, command.options.root.as_str())?;
+    let local = find_local(alloc, tree, command)?;
+    let shown = find_shown(alloc, tree, command)?;
+    let path = search_path(alloc, tree, command.options.is_user)?;
+    let timer = due_on(alloc, tree, &command.question)?;
+    let about = timer.as_deref();
+    let range = RangeZones::load(alloc, tree, &command.question)?;
+    let index = index_for(alloc, tree, &command.question, about, path.as_slice())?;
+    let loaded = load_by_verb(alloc, tree, &index, &command.question, about)?;
+    let unguarded = unguarded_on(alloc, tree, &index, command.options.is_user, &loaded)?;
     Ok(Known {
         now,
         local,
@@ -122,23 +109,23 @@ fn check_root<T: Tree>(alloc: Global, tree: &mut T, root: &str) -> Result<(), Re
     }
 }
 
-/// Finds the local zone of a question.
+/// Finds the local zone of a command.
 fn find_local<T: Tree>(
     alloc: Global,
     tree: &mut T,
-    question: &Question,
+    command: &Command,
 ) -> Result<LocalClock, ReadFault>
     ensures zone { IfOk result (λ clock. (machine : Machine) → T.shows tree.new machine
-        → IsLocalZone machine (local_zone_of machine question.entry.now) (clock_zone clock)) }
+        → IsLocalZone machine (local_zone_of machine command.entry.now) (clock_zone clock)) }
     ensures fault { IfErr result (λ fault. fault ≢ ReadFault.NoMemory → (machine : Machine) → T.shows tree.new machine
-        → IsUnusable machine (local_zone_of machine question.entry.now)) }
+        → IsUnusable machine (local_zone_of machine command.entry.now)) }
     ensures grows { (machine : Machine) → T.shows tree.new machine → T.shows tree.old machine }
 {
     match LocalClock::find(
         alloc,
         tree,
-        question.zone.as_deref(),
-        is_next(question.verb),
+        command.options.zone.as_deref(),
+        is_next(&command.question),
     ) {
         Ok(local) => Ok(local),
         Err(ZonesFault::NoMemory) => Err(ReadFault::NoMemory),
@@ -149,13 +136,10 @@ fn find_local<T: Tree>(
     }
 }
 
-fn is_next(verb: Verb) -> bool
-    ensures { result ≡ is_next verb }
+fn is_next(question: &Question) -> bool
+    ensures { result ≡ is_next question.entry.now }
 {
-    match verb {
-        Verb::Next => true,
-        Verb::List | Verb::Show | Verb::Lint | Verb::Between | Verb::Same | Verb::Due => false,
-    }
+    matches!(question, Question::Next { .. })
 }
 
 /// Finds the zone in which the answer shows times. The caller has already found the zone of `--zone`, so if the option
@@ -163,19 +147,19 @@ fn is_next(verb: Verb) -> bool
 fn find_shown<T: Tree>(
     alloc: Global,
     tree: &mut T,
-    question: &Question,
+    command: &Command,
 ) -> Result<LocalClock, ReadFault>
     ensures zone { IfOk result (λ clock. (machine : Machine) → T.shows tree.new machine
-        → IsLocalZone machine (shown_zone_of machine question.entry.now) (clock_zone clock)) }
+        → IsLocalZone machine (shown_zone_of machine command.entry.now) (clock_zone clock)) }
     ensures fault { IfErr result (λ fault. fault ≢ ReadFault.NoMemory → (machine : Machine) → T.shows tree.new machine
-        → IsUnusable machine (shown_zone_of machine question.entry.now)) }
+        → IsUnusable machine (shown_zone_of machine command.entry.now)) }
     ensures grows { (machine : Machine) → T.shows tree.new machine → T.shows tree.old machine }
 {
     match LocalClock::find(
         alloc,
         tree,
-        shown_option(question),
-        shows_times(question.verb),
+        shown_option(&command.options),
+        shows_times(&command.question),
     ) {
         Ok(shown) => Ok(shown),
         Err(ZonesFault::NoMemory) => Err(ReadFault::NoMemory),
@@ -189,31 +173,18 @@ fn find_shown<T: Tree>(
     }
 }
 
-fn shown_option(question: &Question) -> Option<&str>
-    ensures { option_map (λ text. text.now) result ≡ shown_option question.entry.now }
+fn shown_option(options: &Options) -> Option<&str>
+    ensures { option_map (λ text. text.now) result ≡ shown_option options.entry.now }
 {
-    match question.shown_in.as_deref() {
+    match options.shown_in.as_deref() {
         Some(zone) => Some(zone),
-        None => question.zone.as_deref(),
+        None => options.zone.as_deref(),
     }
 }
 
-/// Returns whether the answers of a verb have times.
-fn shows_times(verb: Verb) -> bool
-    ensures { result ≡ shows_times verb }
+/// Returns whether the answers to a question have times.
+fn shows_times(question: &Question) -> bool
+    ensures { result ≡ shows_times question.entry.now }
 {
-    match verb {
-        Verb::Lint => false,
-        Verb::List | Verb::Show | Verb::Between | Verb::Same | Verb::Next | Verb::Due => true,
-    }
-}
-
-fn texts_of(alloc: Global, targets: &[String]) -> Result<Vec<&str>, AllocError>
-    ensures { IfOk result (λ texts. map (λ text. text.now) texts.items ≡ map string_bytes targets.now) }
-{
-    let mut texts = Vec::new(alloc);
-    for target in targets {
-        texts.push(target.as_str())?;
-    }
-    Ok(texts)
+    !matches!(question, Question::Lint { .. })
 }

@@ -1,41 +1,38 @@
-//! Error lines that depend on the whole answer: a hint that the first target may be a misspelled verb, folders without
+//! Error lines that depend on the whole answer: a hint that the first name may be a misspelled verb, folders without
 //! timers, and a missing zone file.
 
-ghost use Rattle.std.specs.Prelude.{◌≡◌, ◌≤◌, ◌++◌, IfOk, OnOk, codes, map, max, option_map, slice_get, string_bytes};
+ghost use Rattle.std.specs.Prelude.{◌≡◌, ◌≤◌, ◌++◌, IfOk, OnOk, codes, map, max, option_map, string_bytes};
 ghost use Rattle.std.specs.List.{list_any};
 ghost use Rattle.cal_answers.specs.rules.ErrorText.{is_not_found};
-ghost use Rattle.cal_answers.specs.rules.Found.{timer_targets};
 ghost use Rattle.cal_answers.specs.rules.Printed.{printed_of, with_notes};
-ghost use Rattle.cal_answers.specs.rules.Remarks.{empty_folder_lines, folder_lines, is_drop_in, hint_about, hint_at, if_unknown, is_assumed, is_empty, is_nothing, is_unknown, may_find_nothing, shows_no_times, unknown_target, verb_hint, with_empty_folders, zone_note};
+ghost use Rattle.cal_answers.specs.rules.Remarks.{empty_folder_lines, folder_lines, is_drop_in, hint_about, hint_at, if_unknown, is_assumed, is_empty, is_nothing, is_unknown, may_find_nothing, named_in, shows_no_times, unknown_name, verb_hint, with_empty_folders, zone_note};
 
 use crate::answer::{Answer, UNUSABLE, with_errors, with_notes};
 use crate::found::LoadedByVerb;
 use crate::local_clock::LocalClock;
 use cal_load::{Loaded, TargetFault, TargetReason};
-use cal_timers_command::{Question, Verb};
+use cal_timers_command::Verb;
 use std::alloc::{AllocError, Global};
 
-/// Adds a line to the answer of `list` if its first target isn't found and resembles a verb: a misspelled verb is taken
-/// for the name of a timer.
+/// Adds a line to the answer of `list` if the first timer that it names isn't found and resembles a verb: a misspelled
+/// verb is taken for the name of a timer.
 pub(crate) fn with_verb_hint(
     alloc: Global,
-    question: &Question,
-    loaded: &LoadedByVerb,
+    loaded: &LoadedByVerb<'_>,
     answer: Answer,
 ) -> Result<Answer, AllocError>
     ensures status { IfOk result (λ changed. changed.status ≡ answer.status) }
-    ensures changed { IfOk result (λ changed. printed_of changed
-        ≡ with_notes (verb_hint (map string_bytes question.entry.now.targets.items) loaded.now) (printed_of answer)) }
+    ensures changed { IfOk result (λ changed. printed_of changed ≡ with_notes (verb_hint loaded.now) (printed_of answer)) }
 {
-    let hint = verb_hint(alloc, question.targets.as_slice(), loaded)?;
+    let hint = verb_hint(alloc, loaded)?;
     with_notes(answer, hint.as_str())
 }
 
 /// Returns the line that [`with_verb_hint`] adds, or an empty text.
-fn verb_hint(alloc: Global, targets: &[String], loaded: &LoadedByVerb) -> Result<String, AllocError>
-    ensures { IfOk result (λ hint. string_bytes hint ≡ verb_hint (map string_bytes targets.now) loaded.now) }
+fn verb_hint(alloc: Global, loaded: &LoadedByVerb<'_>) -> Result<String, AllocError>
+    ensures { IfOk result (λ hint. string_bytes hint ≡ verb_hint loaded.now) }
 {
-    match unknown_target(targets, loaded) {
+    match unknown_name(loaded) {
         Some(word) => hint_at(alloc, Verb::similar(alloc, word)?),
         None => Ok(String::new(alloc)),
     }
@@ -51,20 +48,20 @@ fn hint_at(alloc: Global, verb: Option<Verb>) -> Result<String, AllocError>
     Ok(format!(in alloc; "calendar-timers: did you mean the verb '{name}'?\n")?)
 }
 
-/// Returns the first target of `list` if there is no such timer.
-fn unknown_target<'q>(targets: &'q [String], loaded: &LoadedByVerb) -> Option<&'q str>
-    ensures { option_map (λ target. target.now) result ≡ unknown_target (map string_bytes targets.now) loaded.now }
+/// Returns the first timer that `list` names, if there is no such timer.
+fn unknown_name<'l>(loaded: &'l LoadedByVerb<'_>) -> Option<&'l str>
+    ensures { option_map (λ name. name.now) result ≡ unknown_name loaded.now }
 {
     match loaded {
-        LoadedByVerb::List(timers) => {
-            if_unknown(timers.faults.as_slice(), targets.first()?.as_str())
+        LoadedByVerb::List { timers, named, .. } => {
+            if_unknown(timers.faults.as_slice(), named.first()?.as_str())
         }
-        LoadedByVerb::Show(_)
-        | LoadedByVerb::Lint(..)
-        | LoadedByVerb::Between(_)
-        | LoadedByVerb::Same(..)
-        | LoadedByVerb::Next(_)
-        | LoadedByVerb::Due(_) => None,
+        LoadedByVerb::Show { .. }
+        | LoadedByVerb::Lint { .. }
+        | LoadedByVerb::Between { .. }
+        | LoadedByVerb::Same { .. }
+        | LoadedByVerb::Next { .. }
+        | LoadedByVerb::Due { .. } => None,
     }
 }
 
@@ -100,30 +97,30 @@ pub(crate) fn is_not_found(reason: &TargetReason) -> bool
 /// For verbs that show times, adds a line if the local zone is UTC only because `/etc/localtime` doesn't lead to a zone
 /// file.
 pub(crate) fn with_zone_note(
-    verb: Verb,
+    loaded: &LoadedByVerb<'_>,
     local: &LocalClock,
     answer: Answer,
 ) -> Result<Answer, AllocError>
     ensures status { IfOk result (λ changed. changed.status ≡ answer.status) }
-    ensures changed { IfOk result (λ changed. printed_of changed ≡ with_notes (zone_note verb local.now) (printed_of answer)) }
+    ensures changed { IfOk result (λ changed. printed_of changed ≡ with_notes (zone_note loaded.now local.now) (printed_of answer)) }
 {
-    with_notes(answer, zone_note(verb, local))
+    with_notes(answer, zone_note(loaded, local))
 }
 
-fn zone_note(verb: Verb, local: &LocalClock) -> &'static str
-    ensures { result.now ≡ zone_note verb local.now }
+fn zone_note(loaded: &LoadedByVerb<'_>, local: &LocalClock) -> &'static str
+    ensures { result.now ≡ zone_note loaded.now local.now }
 {
-    if shows_no_times(verb) || !is_assumed(local) {
+    if shows_no_times(loaded) || !is_assumed(local) {
         ""
     } else {
         "calendar-timers: /etc/localtime: no zone file, so the local zone is UTC\n"
     }
 }
 
-fn shows_no_times(verb: Verb) -> bool
-    ensures { result ≡ shows_no_times verb }
+fn shows_no_times(loaded: &LoadedByVerb<'_>) -> bool
+    ensures { result ≡ shows_no_times loaded.now }
 {
-    matches!(verb, Verb::Lint)
+    matches!(loaded, LoadedByVerb::Lint { .. })
 }
 
 fn is_assumed(local: &LocalClock) -> bool
@@ -132,38 +129,46 @@ fn is_assumed(local: &LocalClock) -> bool
     matches!(local, LocalClock::Assumed)
 }
 
-/// Adds an error line for each target if no target ends in `.conf` and loading the targets found nothing at all: then
-/// all of the targets are folders without timers. Changes nothing if the question can't be answered.
+/// Adds an error line for each name if no name ends in `.conf` and loading found nothing at all: then all of the names
+/// are those of folders without timers. Changes nothing if the question can't be answered.
 pub(crate) fn with_empty_folders(
     alloc: Global,
-    question: &Question,
-    loaded: &LoadedByVerb,
+    loaded: &LoadedByVerb<'_>,
     answer: Answer,
 ) -> Result<Answer, AllocError>
     ensures status { IfOk result (λ changed. changed.status ≤ max answer.status 1) }
-    ensures changed { IfOk result (λ changed. printed_of changed ≡ with_empty_folders
-        (timer_targets question.entry.now.verb (map string_bytes question.entry.now.targets.items)) loaded.now (printed_of answer)) }
+    ensures changed { IfOk result (λ changed. printed_of changed ≡ with_empty_folders loaded.now (printed_of answer)) }
 {
     if answer.status == UNUSABLE {
         return Ok(answer);
     }
-    let lines = empty_folder_lines(alloc, targets_after_times(question), loaded)?;
+    let lines = empty_folder_lines(alloc, loaded)?;
     with_errors(answer, lines.as_str())
 }
 
-/// Returns a line for each target if all of them are folders without timers.
-fn empty_folder_lines(
-    alloc: Global,
-    targets: &[String],
-    loaded: &LoadedByVerb,
-) -> Result<String, AllocError>
-    ensures { IfOk result (λ lines. string_bytes lines ≡ empty_folder_lines (map string_bytes targets.now) loaded.now) }
+/// Returns a line for each folder that is named, if only folders without timers are.
+fn empty_folder_lines(alloc: Global, loaded: &LoadedByVerb<'_>) -> Result<String, AllocError>
+    ensures { IfOk result (λ lines. string_bytes lines ≡ empty_folder_lines loaded.now) }
 {
+    let named = named_in(loaded);
     let mut lines = String::new(alloc);
-    if !may_find_nothing(targets) && is_nothing(loaded) {
-        push_folder_lines(&mut lines, targets)?;
+    if !may_find_nothing(named) && is_nothing(loaded) {
+        push_folder_lines(&mut lines, named)?;
     }
     Ok(lines)
+}
+
+/// Returns the units, files and folders that were named for `list`, `show`, `lint` or `between`.
+fn named_in<'l>(loaded: &'l LoadedByVerb<'_>) -> &'l [String]
+    ensures { map string_bytes result.now ≡ named_in loaded.now }
+{
+    match loaded {
+        LoadedByVerb::List { named, .. }
+        | LoadedByVerb::Show { named, .. }
+        | LoadedByVerb::Lint { named, .. }
+        | LoadedByVerb::Between { named, .. } => named,
+        LoadedByVerb::Same { .. } | LoadedByVerb::Next { .. } | LoadedByVerb::Due { .. } => &[],
+    }
 }
 
 fn push_folder_lines(lines: &mut String, folders: &[String]) -> Result<(), AllocError>
@@ -184,51 +189,39 @@ fn push_folder_line(lines: &mut String, folder: &str) -> Result<(), AllocError>
     lines.push_str(": no timers in this directory\n")
 }
 
-/// Returns whether loading can find nothing although the targets aren't folders: because there are no targets, or
-/// because one of them is a drop-in. `lint` skips a drop-in that is empty or a link to `/dev/null`.
-fn may_find_nothing(targets: &[String]) -> bool
-    ensures { result ≡ may_find_nothing (map string_bytes targets.now) }
+/// Returns whether loading can find nothing although no folder is named: because nothing is named, or because a drop-in
+/// is. `lint` skips a drop-in that is empty or a link to `/dev/null`.
+fn may_find_nothing(named: &[String]) -> bool
+    ensures { result ≡ may_find_nothing (map string_bytes named.now) }
 {
-    targets.is_empty() || has_drop_in(targets)
+    named.is_empty() || has_drop_in(named)
 }
 
-fn has_drop_in(targets: &[String]) -> bool
-    ensures { result ≡ list_any is_drop_in (map string_bytes targets.now) }
+fn has_drop_in(named: &[String]) -> bool
+    ensures { result ≡ list_any is_drop_in (map string_bytes named.now) }
 {
-    targets.iter().any(|target| is_drop_in(target.as_str()))
+    named.iter().any(|name| is_drop_in(name.as_str()))
 }
 
-fn is_drop_in(target: &str) -> bool
-    ensures { result ≡ is_drop_in target.now }
+fn is_drop_in(name: &str) -> bool
+    ensures { result ≡ is_drop_in name.now }
 {
-    target.as_bytes().ends_with(b".conf")
-}
-
-/// Returns the targets without the two times of `between`.
-fn targets_after_times(question: &Question) -> &[String]
-    ensures { map string_bytes result.now ≡ timer_targets question.entry.now.verb (map string_bytes question.entry.now.targets.items) }
-{
-    match question.verb {
-        Verb::Between => question.targets.get(2..).unwrap_or(&[]),
-        Verb::List | Verb::Show | Verb::Lint | Verb::Same | Verb::Next | Verb::Due => {
-            question.targets.as_slice()
-        }
-    }
+    name.as_bytes().ends_with(b".conf")
 }
 
 /// Returns whether loading found nothing at all: no timer, no file, no masked unit and no error. For `same`, `next` and
 /// `due`, to which a folder can't be given, returns `false`.
-fn is_nothing(loaded: &LoadedByVerb) -> bool
+fn is_nothing(loaded: &LoadedByVerb<'_>) -> bool
     ensures { result ≡ is_nothing loaded.now }
 {
     match loaded {
-        LoadedByVerb::List(timers) | LoadedByVerb::Show(timers) | LoadedByVerb::Between(timers) => {
-            is_empty(timers)
-        }
-        LoadedByVerb::Lint(files, timers) => {
+        LoadedByVerb::List { timers, .. }
+        | LoadedByVerb::Show { timers, .. }
+        | LoadedByVerb::Between { timers, .. } => is_empty(timers),
+        LoadedByVerb::Lint { files, timers, .. } => {
             files.files.is_empty() && files.faults.is_empty() && is_empty(timers)
         }
-        LoadedByVerb::Same(..) | LoadedByVerb::Next(_) | LoadedByVerb::Due(_) => false,
+        LoadedByVerb::Same { .. } | LoadedByVerb::Next { .. } | LoadedByVerb::Due { .. } => false,
     }
 }
 

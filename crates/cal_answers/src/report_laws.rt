@@ -1,6 +1,6 @@
 //! Laws of the problems that `lint` prints. Each law is a function with an empty body, whose contract states the law.
 
-ghost use Rattle.std.specs.Prelude.{◌≡◌, ◌↔◌, ◌+◌, ℕ, All, List, length, true};
+ghost use Rattle.std.specs.Prelude.{◌≡◌, ◌↔◌, ◌+◌, ℕ, All, Bool, List, length, true};
 ghost use Rattle.cal_load.specs.declared.files.LoadedFiles.{LoadedFiles};
 ghost use Rattle.cal_load.specs.declared.loaded.Loaded.{Loaded};
 ghost use Rattle.cal_machine.specs.rules.Machine.{Machine};
@@ -14,9 +14,9 @@ ghost use Rattle.cal_answers.specs.rules.LintRows.{Listed, lint_counts};
 /// The status of `lint` is 1 exactly if there are error lines, if it prints an error or if, with `--strict`, it prints a
 /// warning. The numbers in the last line of the text add up to the number of the problems.
 pub fn lint_fails_for_what_it_prints()
-    ensures status { (asked : Asked) (machine : Machine) (path : List (List ℕ)) (files : LoadedFiles) (loaded : Loaded) (out err : List ℕ) (status : ℕ)
-        → (is : IsLint asked machine path files loaded out err status)
-        → (status ≡ 1) ↔ IsFailure asked.is_strict (has_lines err) (all_problems asked machine path loaded is.found) }
+    ensures status { (asked : Asked) (is_strict : Bool) (machine : Machine) (path : List (List ℕ)) (files : LoadedFiles) (loaded : Loaded) (out err : List ℕ) (status : ℕ)
+        → (is : IsLint asked is_strict machine path files loaded out err status)
+        → (status ≡ 1) ↔ IsFailure is_strict (has_lines err) (all_problems asked machine path loaded is.found) }
     ensures counts { (listed : List Listed) → (lint_counts listed).errors + (lint_counts listed).warnings ≡ length listed }
 {}
 

@@ -14,7 +14,6 @@ use cal_load::{
     BrokenLine, BrokenReason, IgnoredLine, LoadedTimer, TargetFault, TargetReason, TimerFiles,
     UnusableZone,
 };
-use cal_plan::PlanFault;
 use cal_tasks::{Clocked, IdleLine, idle_lines};
 use cal_timers_text::{
     NOTHING_TO_DO, broken_drop_in_words, broken_file_words, idle_words, invalid_words, zone_words,
@@ -288,7 +287,7 @@ pub(crate) fn add_idle(
     at: Clocked<'_>,
     timers: &[LoadedTimer],
     found: &mut Vec<Candidate>,
-) -> Result<(), PlanFault>
+) -> Result<(), AllocError>
     ensures { OnOk result (map shown_candidate found.new.items ≡ map shown_candidate found.old.items ++ flat_map (idle_of at.entry) timers.now) }
 {
     for timer in timers {
@@ -302,7 +301,7 @@ fn add_idle_of(
     at: Clocked<'_>,
     timer: &LoadedTimer,
     found: &mut Vec<Candidate>,
-) -> Result<(), PlanFault>
+) -> Result<(), AllocError>
     ensures { OnOk result (map shown_candidate found.new.items ≡ map shown_candidate found.old.items ++ idle_of at.entry timer.now) }
 {
     let lines = idle_lines(alloc, at, timer)?;

@@ -9,29 +9,34 @@ ghost use Rattle.cal_answers.specs.rules.Printed.{printed_of};
 
 use crate::answer::{Answer, Asked, with_error_lines};
 use cal_load::Loaded;
-use cal_plan::PlanFault;
 use cal_tasks::{list_rows, shown_timer};
 use cal_timers_report::{ListRow, ShownTimer, list_json, list_text, show_json, show_text};
 use cal_timers_text::warnings_of;
 use std::alloc::{AllocError, Global};
 
-/// Lists the next elapse of each timer, soonest first. Masked units are listed only if there are targets or `--all` is
+/// Lists the next elapse of each timer, soonest first. Masked units are listed only if timers are named or `--all` is
 /// given. Otherwise, only the units that other units start are listed, and systemd doesn't start a masked unit.
-pub(crate) fn list(alloc: Global, asked: Asked<'_>, loaded: &Loaded) -> Result<Answer, PlanFault>
+pub(crate) fn list(
+    alloc: Global,
+    asked: Asked<'_>,
+    named: &[String],
+    is_all: bool,
+    loaded: &Loaded,
+) -> Result<Answer, AllocError>
     ensures status { IfOk result (λ answer. answer.status ≤ 2) }
-    ensures answer { IfOk result (λ answer. IsListAnswer asked.entry loaded.now (printed_of answer)) }
+    ensures answer { IfOk result (λ answer. IsListAnswer asked.entry named.now is_all loaded.now (printed_of answer)) }
 {
-    let masked = listed_masked(asked, loaded);
+    let masked = listed_masked(named, is_all, loaded);
     let rows = list_rows(alloc, asked.at, loaded, masked, asked.unguarded)?;
     let out = list_output(alloc, asked, rows.as_slice())?;
     with_error_lines(alloc, loaded, out)
 }
 
 /// Returns the names of the masked units that `list` lists.
-fn listed_masked<'l>(asked: Asked<'_>, loaded: &'l Loaded) -> &'l [String]
-    ensures { map string_bytes result.now ≡ listed_masked asked.entry loaded.now }
+fn listed_masked<'l>(named: &[String], is_all: bool, loaded: &'l Loaded) -> &'l [String]
+    ensures { map string_bytes result.now ≡ listed_masked named.now is_all loaded.now }
 {
-    if asked.is_all || !asked.targets.is_empty() {
+    if is_all || !named.is_empty() {
         loaded.masked.as_slice()
     } else {
         &[]
@@ -49,12 +54,17 @@ fn list_output(alloc: Global, asked: Asked<'_>, rows: &[ListRow<'_>]) -> Result<
     }
 }
 
-/// Shows each timer with its files and its next elapses.
-pub(crate) fn show(alloc: Global, asked: Asked<'_>, loaded: &Loaded) -> Result<Answer, PlanFault>
+/// Shows each timer with its files and at most `count` of its next elapses.
+pub(crate) fn show(
+    alloc: Global,
+    asked: Asked<'_>,
+    count: u32,
+    loaded: &Loaded,
+) -> Result<Answer, AllocError>
     ensures status { IfOk result (λ answer. answer.status ≤ 2) }
-    ensures answer { IfOk result (λ answer. IsShowAnswer asked.entry loaded.now (printed_of answer)) }
+    ensures answer { IfOk result (λ answer. IsShowAnswer asked.entry count loaded.now (printed_of answer)) }
 {
-    let timers = shown_timers(alloc, asked, loaded)?;
+    let timers = shown_timers(alloc, asked, count, loaded)?;
     let out = show_output(alloc, asked, timers.as_slice(), loaded.masked.as_slice())?;
     with_error_lines(alloc, loaded, out)
 }
@@ -63,21 +73,15 @@ pub(crate) fn show(alloc: Global, asked: Asked<'_>, loaded: &Loaded) -> Result<A
 fn shown_timers<'l>(
     alloc: Global,
     asked: Asked<'_>,
+    count: u32,
     loaded: &'l Loaded,
-) -> Result<Vec<ShownTimer<'l>>, PlanFault>
-    ensures { IfOk result (λ timers. AllZip (IsShownAs asked.entry) loaded.now.timers.items (map timer_seen timers.items)) }
+) -> Result<Vec<ShownTimer<'l>>, AllocError>
+    ensures { IfOk result (λ timers. AllZip (IsShownAs asked.entry count) loaded.now.timers.items (map timer_seen timers.items)) }
 {
     let mut timers: Vec<ShownTimer<'l>> = Vec::new(alloc);
     for timer in &loaded.timers {
         let warnings = warnings_of(alloc, asked.at, timer)?;
-        let shown = shown_timer(
-            alloc,
-            asked.at,
-            timer,
-            warnings,
-            asked.unguarded,
-            asked.count,
-        )?;
+        let shown = shown_timer(alloc, asked.at, timer, warnings, asked.unguarded, count)?;
         timers.push(shown)?;
     }
     Ok(timers)

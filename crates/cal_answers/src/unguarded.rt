@@ -28,26 +28,22 @@ pub(crate) fn unguarded_on<T: Tree>(
     tree: &mut T,
     index: &UnitIndex,
     is_user: bool,
-    loaded: &LoadedByVerb,
+    loaded: &LoadedByVerb<'_>,
 ) -> Result<Vec<UnguardedTimer>, AllocError>
     ensures known { IfOk result (λ list. (machine : Machine) (path : List (List ℕ)) → T.shows tree.new machine
         → IsIndexOf machine path index.now → map unguarded_seen list.items ≡ unguarded_on machine path is_user loaded.now) }
     ensures grows { (machine : Machine) → T.shows tree.new machine → T.shows tree.old machine }
 {
     match loaded {
-        LoadedByVerb::List(timers) => {
+        LoadedByVerb::List { timers, .. }
+        | LoadedByVerb::Show { timers, .. }
+        | LoadedByVerb::Lint { timers, .. } => {
             unguarded_among(alloc, tree, index, is_user, timers.timers.as_slice())
         }
-        LoadedByVerb::Show(timers) => {
-            unguarded_among(alloc, tree, index, is_user, timers.timers.as_slice())
-        }
-        LoadedByVerb::Lint(_, timers) => {
-            unguarded_among(alloc, tree, index, is_user, timers.timers.as_slice())
-        }
-        LoadedByVerb::Between(_) => Ok(Vec::new(alloc)),
-        LoadedByVerb::Same(..) => Ok(Vec::new(alloc)),
-        LoadedByVerb::Next(_) => Ok(Vec::new(alloc)),
-        LoadedByVerb::Due(_) => Ok(Vec::new(alloc)),
+        LoadedByVerb::Between { .. }
+        | LoadedByVerb::Same { .. }
+        | LoadedByVerb::Next { .. }
+        | LoadedByVerb::Due { .. } => Ok(Vec::new(alloc)),
     }
 }
 

@@ -7,26 +7,25 @@ ghost use Rattle.cal_answers.specs.rules.Printed.{printed_of};
 use crate::answer::{Answer, answer_question};
 use crate::reading::read_question;
 use cal_machine::Raw;
-use cal_plan::PlanFault;
-use cal_timers_command::Question;
+use cal_timers_command::Command;
 use cal_timers_report::Style;
-use std::alloc::Global;
+use std::alloc::{AllocError, Global};
 
-/// Reads all that the answer to a question depends on, and answers it. Each question about the machine is asked of
+/// Reads all that the answer to the question of a command depends on, and answers it. Each question about the machine is asked of
 /// `raw` at most once.
 ///
 /// `clock` is the time that the machine's clock shows, in seconds of Unix time, or `None` if the clock can't be read.
-/// If the question has `--now`, `clock` isn't used. Fails only if allocation fails.
+/// If the command has `--now`, `clock` isn't used. Fails only if allocation fails.
 pub(crate) fn answer_on<R: Raw + Drop>(
     alloc: Global,
     raw: R,
-    question: &Question,
+    command: &Command,
     clock: Option<i64>,
     style: Style,
-) -> Result<Answer, PlanFault>
+) -> Result<Answer, AllocError>
     ensures status { IfOk result (λ answer. answer.status ≤ 2) }
-    ensures answer { IfOk result (λ answer. IsAnswerOn R.gives question.entry.now clock style (printed_of answer)) }
+    ensures answer { IfOk result (λ answer. IsAnswerOn R.gives command.entry.now clock style (printed_of answer)) }
 {
-    let found = read_question(alloc, raw, question, clock)?;
-    answer_question(alloc, question, &found, style)
+    let found = read_question(alloc, raw, command, clock)?;
+    answer_question(alloc, &command.options, &found, style)
 }

@@ -1,5 +1,5 @@
 -- Lemmas about the parsing of option values, and about errors.
-use Rattle.std.proofs.Common.{append-nil, ◌≡◌, ◌≢◌, ℕ, ◌<◌, ◌≤◌, ◌^◌, List, [], ◌∷◌, length, Option, None, Some, Result, Ok, Err, true, false, cond, nat_le, ◌==◌, ◌&&◌, get_or, refl, ap, sym, ◌∙◌, arith, option_map, pos, ℤ, IsSome, IfSome, ◌↔◌, Bool, ◌++◌, Bor, codes, lit<, length-append}
+use Rattle.std.proofs.Common.{◌≡◌, ◌≢◌, ℕ, ◌<◌, ◌≤◌, ◌^◌, List, [], ◌∷◌, length, Option, None, Some, Result, Ok, Err, true, false, cond, nat_le, ◌==◌, ◌&&◌, get_or, refl, ap, sym, ◌∙◌, arith, option_map, pos, ℤ, IsSome, IfSome, ◌↔◌, Bool, ◌++◌, Bor, codes, lit<, length-append}
 use Rattle.std.specs.Prelude.{is_some, unwrap_or}
 use Rattle.std.specs.Option.{option_copied, option_map_or}
 use Rattle.std.specs.Str.{all_ascii_digits, bytes_eq}
@@ -8,12 +8,12 @@ use Rattle.std.proofs.lemmas.Bool.Decides.{nat_tests}
 use Rattle.std.proofs.lemmas.Str.Parse.{IsNumeralModel, numerals_by_value, tells_all_ascii_digits, parse_plain}
 use Rattle.cal_zone.specs.rules.Instant.{IsInstant}
 use Rattle.cal_zone.specs.declared.instant.Instant.{Instant}
-use Rattle.clap.specs.Words.{Row, Text, all_of, first_of}
+use Rattle.clap.specs.Words.{Row, Text, first_of}
 use Rattle.cal_timers_command.specs.declared.command_fault.CommandFault.{CommandFault}
 use Rattle.cal_timers_command.specs.declared.command_fault.CommandFault.TheVariants.{Usage, Help, NoMemory}
-use Rattle.cal_timers_command.specs.rules.Asked.{Fault, IsFaultIn, has_clash, one_text, option_value, targets_in, root_value, text_value, then_with, usage, zone_value}
-use Rattle.cal_timers_command.specs.rules.OptionValues.{bad_value, invalid_value, is_set, no_value, text_in, zone_clash, hint, number_between, present_in}
-use Rattle.cal_timers_command.specs.rules.Questions.{IsUsageOf}
+use Rattle.cal_timers_command.specs.rules.Asked.{Fault, IsFaultIn, count_value, has_clash, option_value, root_value, text_value, then_with, usage, zone_value}
+use Rattle.cal_timers_command.specs.rules.OptionValues.{bad_value, count_in, invalid_value, is_set, no_value, text_in, zone_clash, hint, number_between, present_in}
+use Rattle.cal_timers_command.specs.rules.Questions.{IsUsageOf, default_count}
 
 own : IsNumeralModel (λ ds. all_ascii_digits ds ≡ true) (digits_value 10)
 own = numerals_by_value _ tells_all_ascii_digits
@@ -67,11 +67,11 @@ usage_fault answer message (Help text) is same some = absurd is
 usage_fault answer message NoMemory is same some = tt
 
 -- an error of the first step is also the error of both steps together
-pub fault_then : {A B : Type 0} (answer : Result A Fault) (next : A → Result B Fault) (fault : CommandFault) → IsFaultIn answer fault
-    → IsFaultIn (then_with answer next) fault
-fault_then answer next (Usage text) is = (ap (λ r. then_with r next) is.0, is.1)
-fault_then answer next (Help text) is = absurd is
-fault_then answer next NoMemory is = tt
+pub fault_then : {A B : Type 0} (answer : Result A Fault) (step : A → Result B Fault) (fault : CommandFault) → IsFaultIn answer fault
+    → IsFaultIn (then_with answer step) fault
+fault_then answer step (Usage text) is = (ap (λ r. then_with r step) is.0, is.1)
+fault_then answer step (Help text) is = absurd is
+fault_then answer step NoMemory is = tt
 
 -- if `read` rejects the value `text`, the error with the message about `text` is the error of `option_value`
 pub value_fault : {A : Type 0} (read : Text → Option A) (message : Text → Text) (given : Option Text) (text : Text) (fault : CommandFault) → given ≡ Some text → read text ≡ None
@@ -132,6 +132,12 @@ pub root_given : (rows : List Row) (root : Option Text) → text_value (codes "r
 unfolding root_value
 root_given rows root is = rw is refl
 
+pub count_given : (rows : List Row) (count : Option ℕ)
+    → option_value count_in (bad_value (codes "count") (codes "N") (codes "expected 1 to 1000000")) (first_of (codes "count") rows) ≡ Ok count
+    → count_value rows ≡ Ok (unwrap_or count default_count)
+unfolding count_value
+count_given rows count is = rw is refl
+
 pub clash_of : (rows : List Row) (zone : Option (Bor Text)) (set some : Bool) → is_set (codes "utc") rows ≡ set → option_copied zone ≡ first_of (codes "zone") rows
     → is_some zone ≡ some → has_clash rows ≡ (set && some)
 clash_of rows None set some utc given is = rw (utc, ← given, ← is) refl
@@ -139,21 +145,6 @@ clash_of rows (Some zone) set some utc given is = rw (utc, ← given, ← is) re
 
 pub no_clash : (rows : List Row) → is_set (codes "utc") rows ≡ false → has_clash rows ≡ false
 no_clash rows utc = rw utc refl
-
-pub targets_read : (rows : List Row) (one two three : List Text) → one ≡ one_text (first_of (codes "first") rows) → two ≡ one ++ one_text (first_of (codes "second") rows)
-    → three ≡ two ++ unwrap_or (all_of (codes "target") rows) [] → three ≡ targets_in rows
-unfolding targets_in
-targets_read rows one two three first second others = others ∙ ap (λ texts. texts ++ unwrap_or (all_of (codes "target") rows) []) (second ∙ ap (λ texts. texts ++ one_text (first_of (codes "second") rows)) first)
-
-pub no_targets_read : (rows : List Row) (one two : List Text) → one ≡ one_text (first_of (codes "first") rows) → two ≡ one ++ one_text (first_of (codes "second") rows)
-    → None ≡ all_of (codes "target") rows → two ≡ targets_in rows
-no_targets_read rows one two first second none =
-    targets_read rows one two two first second (sym (append-nil two) ∙ ap (λ found. two ++ unwrap_or found []) none)
-
-pub targets_read_of : (rows : List Row) (one two three texts : List Text) → one ≡ one_text (first_of (codes "first") rows) → two ≡ one ++ one_text (first_of (codes "second") rows)
-    → Some texts ≡ all_of (codes "target") rows → three ≡ two ++ texts → three ≡ targets_in rows
-targets_read_of rows one two three texts first second some others =
-    targets_read rows one two three first second (others ∙ ap (λ found. two ++ unwrap_or found []) some)
 
 pub zone_clash_some : (is_zone_first : Bool) → 0 < length (zone_clash is_zone_first)
 zone_clash_some true = long (codes "error: the argument '--zone <ZONE>' cannot be used with '--utc'") hint (lit< tt)

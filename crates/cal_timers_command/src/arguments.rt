@@ -5,7 +5,7 @@ ghost use Rattle.std.specs.Prelude.{◌≡◌, map};
 ghost use Rattle.cal_timers_command.specs.rules.CommandLine.{shown_argument, verb_rules};
 ghost use Rattle.cal_timers_command.specs.rules.VerbFirst.{needs_value};
 
-use crate::question::Verb;
+use crate::verb::Verb;
 
 /// An option or a positional argument, and what the help says about it.
 #[derive(Clone, Copy)]

@@ -8,7 +8,7 @@ ghost use Rattle.cal_timers_command.specs.rules.CommandLine.{command_app, shown_
 
 use crate::arguments::{Argument, ArgumentForm, SHARED, arguments_of};
 use crate::help_texts::{PROGRAM, USAGE, help_of};
-use crate::question::Verb;
+use crate::verb::Verb;
 use clap::{Arg, ArgAction, Command};
 use std::alloc::{AllocError, Global};
 

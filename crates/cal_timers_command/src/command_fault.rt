@@ -1,11 +1,11 @@
-//! Why the arguments can't be parsed as a question.
+//! Why the arguments can't be parsed as a command.
 
 ghost use Rattle.std.specs.Prelude.{◌≡◌};
 ghost use Rattle.cal_timers_command.specs.declared.command_fault.CommandFault.TheVariants.{NoMemory};
 
 use std::alloc::AllocError;
 
-/// Why the arguments can't be parsed as a [`Question`](crate::Question): they are invalid, they ask for help or the
+/// Why the arguments can't be parsed as a [`Command`](crate::Command): they are invalid, they ask for help or the
 /// version, or allocation failed.
 #[derive(Debug, Drop)]
 pub enum CommandFault {

@@ -1,7 +1,7 @@
 //! The usage of the program, what each verb does, and the text below the options in each help text. `clap` prints a
 //! line break for `{n}`.
 
-use crate::question::Verb;
+use crate::verb::Verb;
 
 /// What the help says about one verb.
 #[derive(Clone, Copy)]

@@ -1,4 +1,4 @@
-//! Parsing of the arguments of `calendar-timers`: a verb, its targets and its options.
+//! Parsing of the arguments of `calendar-timers`: a question, and the options that most verbs share.
 #![tactic(auto)]
 
 mod arguments;
@@ -8,10 +8,14 @@ pub mod command_laws;
 mod command_line;
 mod find;
 mod help_texts;
+mod options;
 mod question;
 mod values;
+mod verb;
 mod verb_first;
+mod verb_questions;
 
 pub use command_fault::CommandFault;
-pub use question::{Question, Verb};
+pub use question::{Command, Options, Question};
+pub use verb::Verb;
 pub use verb_first::asks_due;

@@ -17,21 +17,24 @@ use std::alloc::{AllocError, Global};
 /// The maximum value of `--count`.
 const MAX_COUNT: u64 = 1_000_000;
 
+/// The number of elapses if `--count` isn't given.
+const DEFAULT_COUNT: u32 = 5;
+
 /// The end of each message about an invalid value, as in the messages of `clap`.
 const HINT: &str = "\n\nFor more information, try '--help'.\n";
 
-/// Returns the value of `--count`, a number from 1 to [`MAX_COUNT`], or `None` if the option isn't given. Fails with
-/// [`CommandFault::Usage`] for any other value. The number must be written in digits only.
-pub(crate) fn count_of(alloc: Global, values: &ArgMatches<'_>) -> Result<Option<u32>, CommandFault>
+/// Returns the value of `--count`, a number from 1 to [`MAX_COUNT`], or [`DEFAULT_COUNT`] if the option isn't given.
+/// Fails with [`CommandFault::Usage`] for any other value. The number must be written in digits only.
+pub(crate) fn count_of(alloc: Global, values: &ArgMatches<'_>) -> Result<u32, CommandFault>
     ensures value { IfOk result (λ count. count_value (rows_of (found_of values.now)) ≡ Ok count) }
-    ensures range { IfOk result (λ count. ForSome count IsElapseCount) }
+    ensures range { IfOk result IsElapseCount }
     ensures fault { IfErr result (IsFaultIn (count_value (rows_of (found_of values.now)))) }
 {
     let Some(text) = value_of(values, COUNT.name) else {
-        return Ok(None);
+        return Ok(DEFAULT_COUNT);
     };
     match count_in(text) {
-        Some(count) => Ok(Some(count)),
+        Some(count) => Ok(count),
         None => Err(bad_value(alloc, COUNT, text, "expected 1 to 1000000")),
     }
 }

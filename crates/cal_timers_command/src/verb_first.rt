@@ -7,7 +7,7 @@ ghost use Rattle.cal_timers_command.specs.rules.VerbFirst.{asks_due, asks_help, 
 ghost use Rattle.cal_timers_command.specs.rules.Texts.{texts_of};
 
 use crate::arguments::needs_value;
-use crate::question::Verb;
+use crate::verb::Verb;
 use std::alloc::{AllocError, Global};
 use std::convert::AsStr;
 

@@ -1,19 +1,22 @@
 -- What `read_question` finds: all that the answer to a question depends on, or why the question can't be answered.
 -- `calendar-timers` calls it once per run.
-use Rattle.std.specs.Prelude.{◌≡◌, ◌⊎◌, ◌==◌, ◌||◌, ⊤, ℕ, ℤ, Bool, true, false, not, All, List, [], ◌∷◌, Option, None, Some, drop, length, map, string_bytes}
-use Rattle.std.specs.List.{list_any}
-use Rattle.std.specs.Option.{option_or}
+use Rattle.std.specs.Prelude.{◌≡◌, ◌⊎◌, ◌==◌, ◌||◌, ⊤, ℕ, ℤ, Bool, true, false, not, All, List, [], ◌∷◌, Option, None, Some, length, map, option_map, string_bytes}
+use Rattle.std.specs.List.{flat_map, list_any}
+use Rattle.std.specs.Option.{option_map_or, option_or}
 use Rattle.cal_machine.specs.rules.Machine.{Machine}
 use Rattle.cal_machine.specs.rules.Seen.{AllGiven, Matches, Said, Seen}
+use Rattle.cal_timers_command.specs.declared.question.Command.{Command}
 use Rattle.cal_timers_command.specs.declared.question.Question.{Question}
-use Rattle.cal_timers_command.specs.declared.question.Verb.{Verb}
-use Rattle.cal_timers_command.specs.declared.question.Verb.TheVariants as verbs
+use Rattle.cal_timers_command.specs.declared.question.Question.TheVariants as questions
 use Rattle.cal_unit_index.specs.declared.index.UnitIndex.{UnitIndex}
 use Rattle.cal_unit_index.specs.rules.Index.{IsIndexOf}
+use Rattle.cal_load.specs.declared.files.LoadedFiles.{LoadedFiles}
 use Rattle.cal_load.specs.declared.loaded.Loaded.{Loaded}
+use Rattle.cal_load.specs.rules.AllFiles.{AreTextsAt, all_paths, paths_by}
 use Rattle.cal_load.specs.rules.AllTargets.{HasAllTargets, HasAllUnits, is_path}
 use Rattle.cal_load.specs.rules.AllUnits.{shown_stems, started_if_all}
-use Rattle.cal_load.specs.rules.Expressions.{IsMadeOf}
+use Rattle.cal_load.specs.rules.Expressions.{IsMadeOf, IsTimerOrReason}
+use Rattle.cal_load.specs.rules.FileFaults.{AreFaultsOf, all_lost, lost_by}
 use Rattle.cal_load.specs.rules.Loaded.{IsStoredOn, IsTimerOn}
 use Rattle.cal_answers.specs.declared.found.Found as founds
 use Rattle.cal_answers.specs.declared.found.Known.{Known}
@@ -23,7 +26,7 @@ use Rattle.cal_answers.specs.rules.LocalClock.{IsLocalZone, clock_zone, local_zo
 use Rattle.cal_answers.specs.rules.MachinePath.{machine_path}
 use Rattle.cal_answers.specs.rules.Present.{IsPresent}
 use Rattle.cal_answers.specs.rules.RangeZones.{AreRangeZones}
-use Rattle.cal_answers.specs.rules.Trigger.{targets_on}
+use Rattle.cal_answers.specs.rules.Trigger.{due_on}
 use Rattle.cal_answers.specs.rules.Unguarded.{unguarded_on}
 use Rattle.cal_tasks.specs.rules.Unguarded.{unguarded_seen}
 use Rattle.cal_answers.specs.rules.Unanswerable.{IsUnanswerableOn}
@@ -38,70 +41,68 @@ AreTimersOn machine path loaded = All (IsTimerOn machine path) loaded.timers.ite
 abbrev pub AreMadeOf : Machine → List (List ℕ) → Loaded → Type 0
 AreMadeOf machine texts loaded = All (IsMadeOf machine texts) loaded.timers.items
 
--- what was loaded for a target of `same`: units or files of the machine, or the target as an expression
+-- what was loaded for one side of `same`: units or files of the machine, or the side as an expression
 abbrev pub IsSideOn : Machine → List (List ℕ) → List ℕ → Loaded → Type 0
-IsSideOn machine path target loaded = AreTimersOn machine path loaded ⊎ AreMadeOf machine (target ∷ []) loaded
+IsSideOn machine path side loaded = AreTimersOn machine path loaded ⊎ AreMadeOf machine (side ∷ []) loaded
 
--- `same` has two targets, and each of them was loaded by itself
-abbrev pub AreSidesOn : Machine → List (List ℕ) → List (List ℕ) → Loaded → Loaded → Type 0
-AreSidesOn machine path [] first second = ⊥
-AreSidesOn machine path (one ∷ []) first second = ⊥
-AreSidesOn machine path (one ∷ other ∷ []) first second = IsSideOn machine path one first × IsSideOn machine path other second
-AreSidesOn machine path (one ∷ other ∷ third ∷ rest) first second = ⊥
+-- what was loaded for `due`: the timer that it is about, or None if it is about no timer
+abbrev pub IsDueOn : Machine → List (List ℕ) → Option (List ℕ) → Option Loaded → Type 0
+IsDueOn machine path None timer = timer ≡ None
+IsDueOn machine path (Some about) None = ⊥
+IsDueOn machine path (Some about) (Some timer) = AreTimersOn machine path timer
 
-abbrev pub verb_of : LoadedByVerb → Verb
-verb_of (loads.List timers) = verbs.List
-verb_of (loads.Show timers) = verbs.Show
-verb_of (loads.Lint files timers) = verbs.Lint
-verb_of (loads.Between timers) = verbs.Between
-verb_of (loads.Same first second) = verbs.Same
-verb_of (loads.Next timers) = verbs.Next
-verb_of (loads.Due timer) = verbs.Due
-
--- what was loaded for `due`: a timer of the machine, or None if there is no target
-abbrev pub IsDueOn : Machine → List (List ℕ) → List (List ℕ) → Option Loaded → Type 0
-IsDueOn machine path targets None = targets ≡ []
-IsDueOn machine path targets (Some timer) = AreTimersOn machine path timer
-
--- the timers and the files that were loaded for these targets are those of the machine
-abbrev pub AreLoadedOn : Machine → List (List ℕ) → List (List ℕ) → LoadedByVerb → Type 0
-AreLoadedOn machine path targets (loads.List timers) = AreTimersOn machine path timers
-AreLoadedOn machine path targets (loads.Show timers) = AreTimersOn machine path timers
-AreLoadedOn machine path targets (loads.Lint files timers) =
+-- the timers and the files that were loaded are those of the machine; `about` is the timer that `due` is about
+abbrev pub AreLoadedOn : Machine → List (List ℕ) → Option (List ℕ) → LoadedByVerb → Type 0
+AreLoadedOn machine path about (loads.List timers named is_all) = AreTimersOn machine path timers
+AreLoadedOn machine path about (loads.Show timers named count) = AreTimersOn machine path timers
+AreLoadedOn machine path about (loads.Lint files timers named is_strict) =
     All (IsStoredOn machine) files.files.items × AreTimersOn machine path timers
-AreLoadedOn machine path targets (loads.Between timers) = AreTimersOn machine path timers
-AreLoadedOn machine path targets (loads.Same first second) = AreSidesOn machine path targets first second
-AreLoadedOn machine path targets (loads.Next timers) = AreMadeOf machine targets timers
-AreLoadedOn machine path targets (loads.Due timer) = IsDueOn machine path targets timer
+AreLoadedOn machine path about (loads.Between timers named from to) = AreTimersOn machine path timers
+AreLoadedOn machine path about (loads.Same first one second other) =
+    IsSideOn machine path one.now first × IsSideOn machine path other.now second
+AreLoadedOn machine path about (loads.Next timers expressions count) = AreMadeOf machine (map string_bytes expressions.now) timers
+AreLoadedOn machine path about (loads.Due timer named) = IsDueOn machine path about timer
 
--- the targets that name timers: all of them or, for `between`, those after the first two, which are times
-abbrev pub timer_targets : {X : Type 0} → Verb → List X → List X
-timer_targets verbs.List targets = targets
-timer_targets verbs.Show targets = targets
-timer_targets verbs.Lint targets = targets
-timer_targets verbs.Between targets = drop 2 targets
-timer_targets verbs.Same targets = targets
-timer_targets verbs.Next targets = targets
-timer_targets verbs.Due targets = targets
+-- what was loaded is for this question, and repeats what its verb needs to answer
+abbrev pub IsLoadedFor : Question → LoadedByVerb → Type 0
+IsLoadedFor (questions.List given all) (loads.List timers named is_all) = (named.now ≡ given.items) × (is_all ≡ all)
+IsLoadedFor (questions.Show given most) (loads.Show timers named count) = (named.now ≡ given.items) × (count ≡ most)
+IsLoadedFor (questions.Lint given all strict) (loads.Lint files timers named is_strict) = (named.now ≡ given.items) × (is_strict ≡ strict)
+IsLoadedFor (questions.Between start end given all) (loads.Between timers named from to) =
+    (named.now ≡ given.items) × (from.now ≡ string_bytes start) × (to.now ≡ string_bytes end)
+IsLoadedFor (questions.Same a b) (loads.Same first one second other) = (one.now ≡ string_bytes a) × (other.now ≡ string_bytes b)
+IsLoadedFor (questions.Next given most) (loads.Next timers expressions count) = (expressions.now ≡ given.items) × (count ≡ most)
+IsLoadedFor (questions.Due given) (loads.Due timer named) = option_map (λ name. name.now) named ≡ option_map string_bytes given
+IsLoadedFor _ _ = ⊥
 
--- whether one of these targets is not a path
+-- whether the question is about all units if it names no timers, and not only about those that other units start
+abbrev pub asks_all : Question → Bool
+asks_all (questions.List given all) = all
+asks_all (questions.Show given most) = false
+asks_all (questions.Lint given all strict) = all
+asks_all (questions.Between start end given all) = all
+asks_all (questions.Same a b) = false
+asks_all (questions.Next given most) = false
+asks_all (questions.Due given) = false
+
+-- whether one of these texts is not a path
 abbrev pub has_name : List (List ℕ) → Bool
-has_name targets = list_any (λ target. not (is_path target)) targets
+has_name named = list_any (λ text. not (is_path text)) named
 
--- whether these targets can be about units: there are none, or at least one of them isn't a path
+-- whether a question that names these timers can be about units: it names none, or at least one isn't a path
 abbrev pub name_units : List (List ℕ) → Bool
-name_units targets = length targets == 0 || has_name targets
+name_units named = length named == 0 || has_name named
 
--- whether a question can be about units; this is never so for `next`, whose targets are expressions, nor for `due`
--- without a target
-abbrev pub needs_units : Verb → List (List ℕ) → Bool
-needs_units verbs.List targets = name_units targets
-needs_units verbs.Show targets = name_units targets
-needs_units verbs.Lint targets = name_units targets
-needs_units verbs.Between targets = name_units (drop 2 targets)
-needs_units verbs.Same targets = name_units targets
-needs_units verbs.Next targets = false
-needs_units verbs.Due targets = has_name targets
+-- whether a question can be about units; this is never so for `next`, which names expressions, nor for `due` if it is
+-- about no timer
+abbrev pub needs_units : Question → Option (List ℕ) → Bool
+needs_units (questions.List given all) about = name_units (map string_bytes given.items)
+needs_units (questions.Show given most) about = name_units (map string_bytes given.items)
+needs_units (questions.Lint given all strict) about = name_units (map string_bytes given.items)
+needs_units (questions.Between start end given all) about = name_units (map string_bytes given.items)
+needs_units (questions.Same a b) about = not (is_path (string_bytes a)) || not (is_path (string_bytes b))
+needs_units (questions.Next given most) about = false
+needs_units (questions.Due given) about = option_map_or (λ name. not (is_path name)) about false
 
 -- All units that are loaded if no target is given were looked for, and nothing else was loaded: the units that other
 -- units start or, if `is_all` is true, all units. In the second case, `timers.started` has the units that other units
@@ -123,25 +124,38 @@ abbrev pub HasAllLinted : (Machine → List (List ℕ) → Type 0) → Bool → 
 HasAllLinted Knows is_all [] timers = HasUnits Knows is_all timers
 HasAllLinted Knows is_all (one ∷ rest) timers = ⊤
 
--- The timer that `due` is asked about was looked for, and nothing else was loaded.
-abbrev pub HasDue : (Machine → List (List ℕ) → Type 0) → List (List ℕ) → Option Loaded → Type 0
-HasDue Knows targets None = ⊤
-HasDue Knows targets (Some timer) = HasAllTargets Knows targets timer
+-- These are the texts of all files that `lint` examines, and the errors about those that can't be read: the files of
+-- what is named or, if nothing is, of the units that other units start or, if `is_all` is true, of all units.
+abbrev pub AreFilesOn : Machine → List (List ℕ) → Bool → List (List ℕ) → LoadedFiles → Type 0
+AreFilesOn machine path is_all [] files =
+    AreTextsAt machine (all_paths machine path is_all) files.files.items × AreFaultsOf (all_lost machine path is_all) files.faults.items
+AreFilesOn machine path is_all (one ∷ rest) files =
+    AreTextsAt machine (flat_map (paths_by machine path) (one ∷ rest)) files.files.items
+    × AreFaultsOf (flat_map (lost_by machine path) (one ∷ rest)) files.faults.items
 
--- For `list`, `show`, `between` and `due`, and for `lint` without targets, no timer is missing on any machine and
--- search path for which `Knows` holds. For all other questions, this says nothing.
-abbrev pub AreAll : (Machine → List (List ℕ) → Type 0) → Bool → List (List ℕ) → LoadedByVerb → Type 0
-AreAll Knows is_all targets (loads.List timers) = HasAllFor Knows is_all targets timers
-AreAll Knows is_all targets (loads.Show timers) = HasAllFor Knows is_all targets timers
-AreAll Knows is_all targets (loads.Lint files timers) = HasAllLinted Knows is_all targets timers
-AreAll Knows is_all targets (loads.Between timers) = HasAllFor Knows is_all (drop 2 targets) timers
-AreAll Knows is_all targets (loads.Same first second) = ⊤
-AreAll Knows is_all targets (loads.Next timers) = ⊤
-AreAll Knows is_all targets (loads.Due timer) = HasDue Knows targets timer
+-- The timer that `due` is about was looked for, and nothing else was loaded.
+abbrev pub HasDue : (Machine → List (List ℕ) → Type 0) → Option (List ℕ) → Option Loaded → Type 0
+HasDue Knows (Some about) (Some timer) = HasAllTargets Knows (about ∷ []) timer
+HasDue Knows _ _ = ⊤
+
+-- On any machine and search path for which `Knows` holds, no timer is missing for `list`, `show`, `between` and `due`, and
+-- for `lint` if it names none; `lint` has all files; and `next` has the timer that its expressions make, or the reason
+-- why they make none. For `same`, this says nothing.
+abbrev pub AreAll : (Machine → List (List ℕ) → Type 0) → Bool → Option (List ℕ) → LoadedByVerb → Type 0
+AreAll Knows all about (loads.List timers named is_all) = HasAllFor Knows all (map string_bytes named.now) timers
+AreAll Knows all about (loads.Show timers named count) = HasAllFor Knows all (map string_bytes named.now) timers
+AreAll Knows all about (loads.Lint files timers named is_strict) =
+    HasAllLinted Knows all (map string_bytes named.now) timers
+    × ((machine : Machine) (path : List (List ℕ)) → Knows machine path → AreFilesOn machine path all (map string_bytes named.now) files)
+AreAll Knows all about (loads.Between timers named from to) = HasAllFor Knows all (map string_bytes named.now) timers
+AreAll Knows all about (loads.Same first one second other) = ⊤
+AreAll Knows all about (loads.Next timers expressions count) =
+    IsTimerOrReason (λ machine. (path : List (List ℕ)) × Knows machine path) (map string_bytes expressions.now) timers
+AreAll Knows all about (loads.Due timer named) = HasDue Knows about timer
 
 -- no timer is missing (`AreAll`) on this machine and search path
-abbrev pub AreAllOn : Machine → List (List ℕ) → Bool → List (List ℕ) → LoadedByVerb → Type 0
-AreAllOn machine path is_all targets loaded = AreAll (λ other folders. (other ≡ machine) × (folders ≡ path)) is_all targets loaded
+abbrev pub AreAllOn : Machine → List (List ℕ) → Bool → Option (List ℕ) → LoadedByVerb → Type 0
+AreAllOn machine path all about loaded = AreAll (λ other folders. (other ≡ machine) × (folders ≡ path)) all about loaded
 
 -- ## What was found
 
@@ -154,24 +168,20 @@ abbrev pub IsPathOf : Machine → Bool → Bool → List (List ℕ) → Type 0
 IsPathOf machine is_user true path = machine_path machine is_user ≡ Some path
 IsPathOf machine is_user false path = (machine_path machine is_user ≡ Some path) ⊎ (path ≡ [])
 
--- the targets of a question; if `due` has none, the timer that started the service on this machine takes their place
-abbrev pub targets_of : Machine → Question → List (List ℕ)
-targets_of machine question = targets_on machine question.verb (map string_bytes question.targets.items)
-
--- What is known for a question is true on this machine: the local zone, the zone in which times are shown, the zones
--- that a range names, the index of the search path, and the timers and files that were loaded. No timer is missing
--- (`AreAllOn`), and `unguarded` has the timers whose exceptions systemd ignores.
-pub record IsKnownOn (machine : Machine) (question : Question) (known : Known) : Type 0 where
-  pub local : IsLocalZone machine (local_zone_of machine question) (clock_zone known.local)
-  pub shown : IsLocalZone machine (shown_zone_of machine question) (clock_zone known.shown)
-  pub range : AreRangeZones machine question.verb (targets_of machine question) known.range
+-- What is known for the question of a command is true on this machine: the local zone, the zone in which times are
+-- shown, the zones that a range names, the index of the search path, and the timers and files that were loaded. No timer
+-- is missing (`AreAllOn`), and `unguarded` has the timers whose exceptions systemd ignores.
+pub record IsKnownOn (machine : Machine) (command : Command) (known : Known) : Type 0 where
+  pub local : IsLocalZone machine (local_zone_of machine command) (clock_zone known.local)
+  pub shown : IsLocalZone machine (shown_zone_of machine command) (clock_zone known.shown)
+  pub range : AreRangeZones machine command.question known.range
   pub path : List (List ℕ)
-  pub searched : IsPathOf machine question.is_user (needs_units question.verb (targets_of machine question)) path
+  pub searched : IsPathOf machine command.options.is_user (needs_units command.question (due_on machine command.question)) path
   pub index : IsIndexOf machine path known.index
-  pub for_verb : verb_of known.loaded ≡ question.verb
-  pub loaded : AreLoadedOn machine path (targets_of machine question) known.loaded
-  pub whole : AreAllOn machine path question.is_all (targets_of machine question) known.loaded
-  pub unguarded : map unguarded_seen known.unguarded.items ≡ unguarded_on machine path question.is_user known.loaded
+  pub for_question : IsLoadedFor command.question known.loaded
+  pub loaded : AreLoadedOn machine path (due_on machine command.question) known.loaded
+  pub whole : AreAllOn machine path (asks_all command.question) (due_on machine command.question) known.loaded
+  pub unguarded : map unguarded_seen known.unguarded.items ≡ unguarded_on machine path command.options.is_user known.loaded
 
 -- `IsSo` follows from what was read. `given`: all that was read was returned by system calls. `is_so`: `IsSo` holds for
 -- every machine that matches what was read. `possible`: such a machine exists.
@@ -181,14 +191,14 @@ pub record FollowsFromRead (gives : Said → Bool) (IsSo : Machine → Type 0) :
   pub is_so : (machine : Machine) → Matches read machine → IsSo machine
   pub possible : (machine : Machine) × Matches read machine
 
--- What is known for a question follows from what was read, and the present is the one that the question states or, if
+-- What is known for a question follows from what was read, and the present is the one that the command states or, if
 -- it states none, the time of the clock.
-abbrev pub IsKnownBy : (Said → Bool) → Question → Option ℤ → Known → Type 0
-IsKnownBy gives question clock known =
-    IsPresent (option_or question.now clock) (Some known.now) × FollowsFromRead gives (λ machine. IsKnownOn machine question known)
+abbrev pub IsKnownBy : (Said → Bool) → Command → Option ℤ → Known → Type 0
+IsKnownBy gives command clock known =
+    IsPresent (option_or command.options.now clock) (Some known.now) × FollowsFromRead gives (λ machine. IsKnownOn machine command known)
 
 -- What was found follows from what was read. It is either all that is known, or that the question can't be answered.
-abbrev pub IsFoundBy : (Said → Bool) → Question → Option ℤ → founds.Found → Type 0
-IsFoundBy gives question clock (founds.TheVariants.Unanswerable reason) =
-    FollowsFromRead gives (λ machine. IsUnanswerableOn machine question clock)
-IsFoundBy gives question clock (founds.TheVariants.Answerable known) = IsKnownBy gives question clock known
+abbrev pub IsFoundBy : (Said → Bool) → Command → Option ℤ → founds.Found → Type 0
+IsFoundBy gives command clock (founds.TheVariants.Unanswerable reason) =
+    FollowsFromRead gives (λ machine. IsUnanswerableOn machine command clock)
+IsFoundBy gives command clock (founds.TheVariants.Answerable known) = IsKnownBy gives command clock known

@@ -43,13 +43,13 @@ abbrev pub has_lines : List ℕ → Bool
 has_lines err = not (length err == 0)
 
 -- what is printed, besides the error lines `err`, and the exit status: both are those of the same problems
-pub record IsLint (asked : Asked) (machine : Machine) (path : List (List ℕ)) (files : LoadedFiles) (loaded : Loaded) (out err : List ℕ) (status : ℕ) : Type 0 where
+pub record IsLint (asked : Asked) (is_strict : Bool) (machine : Machine) (path : List (List ℕ)) (files : LoadedFiles) (loaded : Loaded) (out err : List ℕ) (status : ℕ) : Type 0 where
   pub found : List Listed
   pub of_files : AreProblemsOfFiles asked.style files.files.items found
   pub prints : out ≡ lint_output asked (unread machine path files loaded) (all_problems asked machine path loaded found)
-  pub ends : status ≡ lint_status asked.is_strict (lint_counts (all_problems asked machine path loaded found)) (has_lines err)
+  pub ends : status ≡ lint_status is_strict (lint_counts (all_problems asked machine path loaded found)) (has_lines err)
 
 -- `index` is the index of a search path on a machine; what is printed is true of each such machine and search path
-abbrev pub IsLintBy : Asked → UnitIndex → LoadedFiles → Loaded → List ℕ → List ℕ → ℕ → Type 0
-IsLintBy asked index files loaded out err status =
-    (machine : Machine) (path : List (List ℕ)) → IsIndexOf machine path index → IsLint asked machine path files loaded out err status
+abbrev pub IsLintBy : Asked → Bool → UnitIndex → LoadedFiles → Loaded → List ℕ → List ℕ → ℕ → Type 0
+IsLintBy asked is_strict index files loaded out err status =
+    (machine : Machine) (path : List (List ℕ)) → IsIndexOf machine path index → IsLint asked is_strict machine path files loaded out err status

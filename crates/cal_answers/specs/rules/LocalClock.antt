@@ -7,9 +7,10 @@ use Rattle.jiff.specs.Placed.{IsPosixZone}
 use Rattle.jiff.specs.Types.{TimeZone, UTC}
 use Rattle.cal_civil.specs.rules.ZoneName.{is_utc_name}
 use Rattle.cal_machine.specs.rules.Machine.{Machine}
+use Rattle.cal_timers_command.specs.declared.question.Command.{Command}
+use Rattle.cal_timers_command.specs.declared.question.Options.{Options}
 use Rattle.cal_timers_command.specs.declared.question.Question.{Question}
-use Rattle.cal_timers_command.specs.declared.question.Verb.{Verb}
-use Rattle.cal_timers_command.specs.declared.question.Verb.TheVariants as verbs
+use Rattle.cal_timers_command.specs.declared.question.Question.TheVariants as questions
 use Rattle.cal_zone_files.specs.rules.MachineLocalZone.{MachineLocalZone, InUtc, Ahead, ByRule, OfName, OfMachine, UnclearIn, UnreadIn, machine_local_zone}
 use Rattle.cal_zone_files.specs.rules.ZoneFiles.{IsMachineZone, IsZoneOn}
 use Rattle.cal_zone.specs.rules.FixedOffsetZone.{fixed_offset_zone}
@@ -48,36 +49,36 @@ clock_zone Assumed = Some UTC
 
 -- ## Questions
 
-abbrev pub is_next : Verb → Bool
-is_next verbs.List = false
-is_next verbs.Show = false
-is_next verbs.Lint = false
-is_next verbs.Between = false
-is_next verbs.Same = false
-is_next verbs.Next = true
-is_next verbs.Due = false
+abbrev pub is_next : Question → Bool
+is_next (questions.List given all) = false
+is_next (questions.Show given most) = false
+is_next (questions.Lint given all strict) = false
+is_next (questions.Between start end given all) = false
+is_next (questions.Same a b) = false
+is_next (questions.Next given most) = true
+is_next (questions.Due given) = false
 
--- whether the answers of a verb have times
-abbrev pub shows_times : Verb → Bool
-shows_times verbs.List = true
-shows_times verbs.Show = true
-shows_times verbs.Lint = false
-shows_times verbs.Between = true
-shows_times verbs.Same = true
-shows_times verbs.Next = true
-shows_times verbs.Due = true
+-- whether the answers to a question have times
+abbrev pub shows_times : Question → Bool
+shows_times (questions.List given all) = true
+shows_times (questions.Show given most) = true
+shows_times (questions.Lint given all strict) = false
+shows_times (questions.Between start end given all) = true
+shows_times (questions.Same a b) = true
+shows_times (questions.Next given most) = true
+shows_times (questions.Due given) = true
 
 -- the zone of expressions that name no zone: `--zone` if it is given, or else, for `next`, `TZ` if it is set, or else
 -- the machine's own zone
-abbrev pub local_zone_of : Machine → Question → MachineLocalZone
-local_zone_of machine question =
-    machine_local_zone machine (option_map string_bytes question.zone) (is_next question.verb)
+abbrev pub local_zone_of : Machine → Command → MachineLocalZone
+local_zone_of machine command =
+    machine_local_zone machine (option_map string_bytes command.options.zone) (is_next command.question)
 
 -- the option that says in which zone times are shown: `--in` if it is given, or else `--zone`
-abbrev pub shown_option : Question → Option (List ℕ)
-shown_option question = option_or (option_map string_bytes question.shown_in) (option_map string_bytes question.zone)
+abbrev pub shown_option : Options → Option (List ℕ)
+shown_option options = option_or (option_map string_bytes options.shown_in) (option_map string_bytes options.zone)
 
 -- the zone in which times are shown: that of `--in` or `--zone`, or else that of `TZ`, or else the machine's own;
 -- `lint` shows no times, so `TZ` is ignored for it
-abbrev pub shown_zone_of : Machine → Question → MachineLocalZone
-shown_zone_of machine question = machine_local_zone machine (shown_option question) (shows_times question.verb)
+abbrev pub shown_zone_of : Machine → Command → MachineLocalZone
+shown_zone_of machine command = machine_local_zone machine (shown_option command.options) (shows_times command.question)

@@ -1,7 +1,7 @@
 -- What is printed, and the exit status: for each verb the text or the JSON document of a report, with its error lines.
-use Rattle.std.specs.Prelude.{◌≡◌, ◌==◌, ◌++◌, ◌&&◌, ◌||◌, ◌⊎◌, ℕ, ℤ, Bool, false, true, is_none, not, List, [], Option, None, Some, Result, Ok, Err, codes, if◌then◌else◌, int_lt, length, map, max, slice_get, string_bytes}
+use Rattle.std.specs.Prelude.{◌≡◌, ◌==◌, ◌++◌, ◌&&◌, ◌||◌, ◌⊎◌, ℕ, ℤ, Bool, false, true, is_none, not, List, [], Option, None, Some, Result, Ok, Err, codes, if◌then◌else◌, int_lt, length, map, max, option_map, slice_get, string_bytes}
 use Rattle.std.specs.List.{AllZip}
-use Rattle.std.specs.Option.{option_or, unwrap_or}
+use Rattle.std.specs.Option.{option_or}
 use Rattle.std.specs.Str.{bytes_eq}
 use Rattle.cal_bytes.specs.rules.Trim.{trim_end_matches}
 use Rattle.cal_machine.specs.rules.Places.{is_slash}
@@ -10,7 +10,7 @@ use Rattle.cal_load.specs.declared.files.LoadedFiles.{LoadedFiles}
 use Rattle.cal_load.specs.declared.loaded.Loaded.{Loaded}
 use Rattle.cal_load.specs.declared.loaded.LoadedTimer.{LoadedTimer}
 use Rattle.cal_load.specs.rules.AllTargets.{is_path}
-use Rattle.cal_load.specs.rules.CalendarZones.{expressions_in}
+use Rattle.cal_load.specs.rules.Loaded.{expressions_in}
 use Rattle.cal_stamp.specs.declared.fault.StampFault.{StampFault}
 use Rattle.cal_stamp.specs.rules.StampFault.{message_of}
 use Rattle.cal_tasks.specs.declared.due.DueRun.{DueRun}
@@ -25,7 +25,8 @@ use Rattle.cal_tasks.specs.rules.SameReport.{comparison_of}
 use Rattle.cal_tasks.specs.rules.Unguarded.{unguarded_seen}
 use Rattle.cal_tasks.specs.rules.ShowReport.{IsShownTimer}
 use Rattle.cal_tasks.specs.rules.When.{setting_with, when_in}
-use Rattle.cal_timers_command.specs.declared.question.Question.{Question}
+use Rattle.cal_timers_command.specs.declared.question.Command.{Command}
+use Rattle.cal_timers_command.specs.declared.question.Options.{Options}
 use Rattle.cal_timers_report.specs.declared.style.Style.{Style}
 use Rattle.cal_timers_report.specs.rules.BetweenText.{between_lines}
 use Rattle.cal_timers_report.specs.rules.Documents.{between_document, due_document, list_document, same_document, show_document}
@@ -56,18 +57,19 @@ abbrev pub HasLoadedLines : Loaded → Printed → Type 0
 HasLoadedLines loaded printed = (printed.err ≡ loaded_lines loaded) × (printed.status ≡ status_by printed.err)
 
 -- the masked units that `list` lists: those that are named, or with `--all` those of the search path
-abbrev pub listed_masked : Asked → Loaded → List (List ℕ)
-listed_masked asked loaded =
-    if asked.is_all || not (length asked.targets.now == 0) then map string_bytes loaded.masked.items else []
+abbrev pub listed_masked : {X : Type 0} → List X → Bool → Loaded → List (List ℕ)
+listed_masked named is_all loaded =
+    if is_all || not (length named == 0) then map string_bytes loaded.masked.items else []
 
 abbrev pub list_output : Asked → List UnitView → List ℕ
 list_output asked rows =
     if asked.is_json then list_document asked.shown.local asked.shown.now.secs rows
     else list_table asked.style asked.shown.local asked.shown.now.secs rows
 
-abbrev pub IsListOutput : Asked → Loaded → List ℕ → Type 0
-IsListOutput asked loaded out =
-    (rows : List UnitView) × IsListOf asked.at loaded (listed_masked asked loaded) (map unguarded_seen asked.unguarded.now) rows
+-- the output lists the timers and these masked units
+abbrev pub IsListOutput : Asked → Loaded → List (List ℕ) → List ℕ → Type 0
+IsListOutput asked loaded masked out =
+    (rows : List UnitView) × IsListOf asked.at loaded masked (map unguarded_seen asked.unguarded.now) rows
     × (out ≡ list_output asked rows)
 
 abbrev pub show_output : Asked → List TimerView → List (List ℕ) → List ℕ
@@ -75,15 +77,15 @@ show_output asked timers masked =
     if asked.is_json then show_document asked.shown.local asked.shown.now.secs timers
     else show_lines asked.style asked.shown.local asked.shown.now.secs timers masked
 
--- the report of a timer, with its warnings and as many elapses as are asked for
-abbrev pub IsShownAs : Asked → LoadedTimer → TimerView → Type 0
-IsShownAs asked timer view =
-    IsShownTimer asked.at asked.count (warnings_in (setting_for asked.at timer) asked.at.now.secs (expressions_in timer.calendar))
+-- the report of a timer, with its warnings and at most `count` elapses
+abbrev pub IsShownAs : Asked → ℕ → LoadedTimer → TimerView → Type 0
+IsShownAs asked count timer view =
+    IsShownTimer asked.at count (warnings_in (setting_for asked.at timer) asked.at.now.secs (expressions_in timer.calendar))
     (map unguarded_seen asked.unguarded.now) timer view
 
-abbrev pub IsShowOutput : Asked → Loaded → List ℕ → Type 0
-IsShowOutput asked loaded out =
-    (timers : List TimerView) × AllZip (IsShownAs asked) loaded.timers.items timers
+abbrev pub IsShowOutput : Asked → ℕ → Loaded → List ℕ → Type 0
+IsShowOutput asked count loaded out =
+    (timers : List TimerView) × AllZip (IsShownAs asked count) loaded.timers.items timers
     × (out ≡ show_output asked timers (map string_bytes loaded.masked.items))
 
 abbrev pub between_output : Asked → List ElapseView → List ℕ
@@ -121,16 +123,11 @@ IsAnswerFrom asked loaded from before (Err fault) printed = IsStopped (bad_time 
 IsAnswerFrom asked loaded from before (Ok start) printed =
     IsAnswerUntil asked loaded start before (when_in asked.shown.now.secs (setting_with asked.shown asked.range.now.before) start before) printed
 
-abbrev pub IsAnswerOfTexts : Asked → Loaded → Option (List ℕ) → Option (List ℕ) → Printed → Type 0
-IsAnswerOfTexts asked loaded None before printed = IsStopped (codes "FROM and TO are missing") printed
-IsAnswerOfTexts asked loaded (Some from) None printed = IsStopped (codes "FROM and TO are missing") printed
-IsAnswerOfTexts asked loaded (Some from) (Some before) printed =
+-- the answer for the range that begins at the time `from` and ends at the time `before`, which are texts
+abbrev pub IsBetweenAnswer : Asked → Loaded → List ℕ → List ℕ → Printed → Type 0
+IsBetweenAnswer asked loaded from before printed =
     IsAnswerFrom asked loaded from before
     (when_in asked.shown.now.secs (setting_with asked.shown asked.range.now.from) asked.shown.now.secs from) printed
-
--- the start and the end of the range are the first two targets
-abbrev pub IsBetweenAnswer : Asked → Loaded → List (List ℕ) → Printed → Type 0
-IsBetweenAnswer asked loaded targets printed = IsAnswerOfTexts asked loaded (slice_get targets 0) (slice_get targets 1) printed
 
 -- whether the name of the timer is the target itself, slashes at its end aside; the timers of a folder have other names
 abbrev pub is_named : List ℕ → LoadedTimer → Bool
@@ -149,10 +146,8 @@ abbrev pub if_folder : List ℕ → Loaded → Option (List ℕ)
 if_folder target loaded = if is_loaded_folder target loaded then Some target else None
 
 -- the first of two targets that is a folder
-abbrev pub folder_of_both : Option (List ℕ) → Option (List ℕ) → Loaded → Loaded → Option (List ℕ)
-folder_of_both None other first second = None
-folder_of_both (Some one) None first second = None
-folder_of_both (Some one) (Some other) first second = option_or (if_folder one first) (if_folder other second)
+abbrev pub folder_of_both : List ℕ → List ℕ → Loaded → Loaded → Option (List ℕ)
+folder_of_both one other first second = option_or (if_folder one first) (if_folder other second)
 
 -- the reason that is given if a target of `same` or `due` is a folder
 abbrev pub not_a_timer : List ℕ → List ℕ
@@ -191,10 +186,10 @@ IsSameUnless (Some folder) asked first second printed = IsStopped (not_a_timer f
 IsSameUnless None asked first second printed =
     IsPairAnswer asked first second (slice_get first.timers.items 0) (slice_get second.timers.items 0) printed
 
--- the comparison of the two timers, unless a target is a folder
-abbrev pub IsSameAnswer : Asked → List (List ℕ) → Loaded → Loaded → Printed → Type 0
-IsSameAnswer asked targets first second printed =
-    IsSameUnless (folder_of_both (slice_get targets 0) (slice_get targets 1) first second) asked first second printed
+-- the comparison of the two timers, unless one of the targets `one` and `other` is a folder
+abbrev pub IsSameAnswer : Asked → List ℕ → List ℕ → Loaded → Loaded → Printed → Type 0
+IsSameAnswer asked one other first second printed =
+    IsSameUnless (folder_of_both one other first second) asked first second printed
 
 abbrev pub due_output : Asked → DueView → List ℕ
 due_output asked report =
@@ -245,78 +240,74 @@ abbrev pub IsDueUnless : Option (List ℕ) → Asked → Loaded → Printed → 
 IsDueUnless (Some folder) asked loaded printed = IsStopped (not_a_timer folder) printed
 IsDueUnless None asked loaded printed = IsFirstDue asked loaded (slice_get loaded.timers.items 0) printed
 
--- the report about the run that the timer started, unless the target is a folder; a run that no timer started is due
-abbrev pub IsDueAnswer : Asked → Option Loaded → Printed → Type 0
-IsDueAnswer asked None printed = (printed.out ≡ due_output asked by_hand) × (printed.err ≡ []) × (printed.status ≡ 0)
-IsDueAnswer asked (Some loaded) printed =
-    IsDueUnless (folder_of (slice_get (map string_bytes asked.targets.now) 0) loaded) asked loaded printed
+-- the report about the run that the timer started, unless the timer that was named is a folder; a run that no timer
+-- started is due
+abbrev pub IsDueAnswer : Asked → Option (List ℕ) → Option Loaded → Printed → Type 0
+IsDueAnswer asked named None printed = (printed.out ≡ due_output asked by_hand) × (printed.err ≡ []) × (printed.status ≡ 0)
+IsDueAnswer asked named (Some loaded) printed = IsDueUnless (folder_of named loaded) asked loaded printed
 
 -- ## The answer
 
-abbrev pub IsListAnswer : Asked → Loaded → Printed → Type 0
-IsListAnswer asked loaded printed = IsListOutput asked loaded printed.out × HasLoadedLines loaded printed
+abbrev pub IsListAnswer : {X : Type 0} → Asked → List X → Bool → Loaded → Printed → Type 0
+IsListAnswer asked named is_all loaded printed =
+    IsListOutput asked loaded (listed_masked named is_all loaded) printed.out × HasLoadedLines loaded printed
 
-abbrev pub IsShowAnswer : Asked → Loaded → Printed → Type 0
-IsShowAnswer asked loaded printed = IsShowOutput asked loaded printed.out × HasLoadedLines loaded printed
+abbrev pub IsShowAnswer : Asked → ℕ → Loaded → Printed → Type 0
+IsShowAnswer asked count loaded printed = IsShowOutput asked count loaded printed.out × HasLoadedLines loaded printed
 
 -- the problems of the files and the timers, with the error lines about what can't be read; `index` is the index of the
 -- search path
-abbrev pub IsLintAnswer : Asked → UnitIndex → LoadedFiles → Loaded → Printed → Type 0
-IsLintAnswer asked index files timers printed =
-    IsLintBy asked index files timers printed.out printed.err printed.status
+abbrev pub IsLintAnswer : Asked → Bool → UnitIndex → LoadedFiles → Loaded → Printed → Type 0
+IsLintAnswer asked is_strict index files timers printed =
+    IsLintBy asked is_strict index files timers printed.out printed.err printed.status
     × (printed.err ≡ lint_lines files.faults.items timers.faults.items)
 
 -- what a verb answers for what was loaded
 abbrev pub IsVerbAnswer : Asked → UnitIndex → LoadedByVerb → Printed → Type 0
-IsVerbAnswer asked index (loads.List timers) printed = IsListAnswer asked timers printed
-IsVerbAnswer asked index (loads.Show timers) printed = IsShowAnswer asked timers printed
-IsVerbAnswer asked index (loads.Lint files timers) printed = IsLintAnswer asked index files timers printed
-IsVerbAnswer asked index (loads.Between timers) printed = IsBetweenAnswer asked timers (map string_bytes asked.targets.now) printed
-IsVerbAnswer asked index (loads.Same first second) printed = IsSameAnswer asked (map string_bytes asked.targets.now) first second printed
-IsVerbAnswer asked index (loads.Next timers) printed = IsShowAnswer asked timers printed
-IsVerbAnswer asked index (loads.Due timer) printed = IsDueAnswer asked timer printed
+IsVerbAnswer asked index (loads.List timers named is_all) printed = IsListAnswer asked named.now is_all timers printed
+IsVerbAnswer asked index (loads.Show timers named count) printed = IsShowAnswer asked count timers printed
+IsVerbAnswer asked index (loads.Lint files timers named is_strict) printed = IsLintAnswer asked is_strict index files timers printed
+IsVerbAnswer asked index (loads.Between timers named from to) printed = IsBetweenAnswer asked timers from.now to.now printed
+IsVerbAnswer asked index (loads.Same first one second other) printed = IsSameAnswer asked one.now other.now first second printed
+IsVerbAnswer asked index (loads.Next timers expressions count) printed = IsShowAnswer asked count timers printed
+IsVerbAnswer asked index (loads.Due timer named) printed = IsDueAnswer asked (option_map (λ name. name.now) named) timer printed
 
--- What a verb needs to know (`asked`) agrees with the question, with what is known, and with the style of the output.
--- Without `--count`, 5 elapses are shown.
-pub record IsAskedBy (question : Question) (known : Known) (style : Style) (asked : Asked) : Type 0 where
+-- What all verbs need to know (`asked`) agrees with the options, with what is known, and with the style of the output.
+pub record IsAskedBy (options : Options) (known : Known) (style : Style) (asked : Asked) : Type 0 where
   pub now : asked.at.now ≡ known.now
   pub local : clock_zone known.local ≡ Some (zone_of asked.at.local)
   pub shown_now : asked.shown.now ≡ known.now
   pub shown : clock_zone known.shown ≡ Some (zone_of asked.shown.local)
   pub range : asked.range.now ≡ known.range
-  pub targets : asked.targets.now ≡ question.targets.items
   pub unguarded : asked.unguarded.now ≡ known.unguarded.items
-  pub count : asked.count ≡ unwrap_or question.count 5
-  pub is_all : asked.is_all ≡ question.is_all
-  pub is_user : asked.is_user ≡ question.is_user
-  pub is_strict : asked.is_strict ≡ question.is_strict
-  pub is_json : asked.is_json ≡ question.is_json
+  pub is_user : asked.is_user ≡ options.is_user
+  pub is_json : asked.is_json ≡ options.is_json
   pub styled : asked.style ≡ style
 
 -- the answer of the verb to what is known, followed by the error lines that `with_common_lines` adds
-abbrev pub IsAnswerAsked : Question → Known → Asked → Printed → Type 0
-IsAnswerAsked question known asked printed =
-    (answer : Printed) × IsVerbAnswer asked known.index known.loaded answer × (printed ≡ with_common_lines question known answer)
+abbrev pub IsAnswerAsked : Known → Asked → Printed → Type 0
+IsAnswerAsked known asked printed =
+    (answer : Printed) × IsVerbAnswer asked known.index known.loaded answer × (printed ≡ with_common_lines known answer)
 
-abbrev pub IsAnswerFor : Question → Known → Style → Printed → Type 0
-IsAnswerFor question known style printed =
-    (asked : Asked) × IsAskedBy question known style asked × IsAnswerAsked question known asked printed
+abbrev pub IsAnswerFor : Options → Known → Style → Printed → Type 0
+IsAnswerFor options known style printed =
+    (asked : Asked) × IsAskedBy options known style asked × IsAnswerAsked known asked printed
 
 -- The answer to what is known. If a zone isn't known, there is only an error line.
-abbrev pub IsAnswerToKnown : Question → Known → Style → Printed → Type 0
-IsAnswerToKnown question known style printed =
+abbrev pub IsAnswerToKnown : Options → Known → Style → Printed → Type 0
+IsAnswerToKnown options known style printed =
     ((clock_zone known.local ≡ None) × IsStopped (codes "the local zone isn't known") printed)
     ⊎ (((clock_zone known.shown ≡ None) × IsStopped (codes "the local zone isn't known") printed)
-    ⊎ IsAnswerFor question known style printed)
+    ⊎ IsAnswerFor options known style printed)
 
 -- The answer to what was found. If the question can't be answered, there is only an error line with the reason.
-abbrev pub IsAnswerToFound : Question → founds.Found → Style → Printed → Type 0
-IsAnswerToFound question (founds.TheVariants.Unanswerable reason) style printed = IsStopped (string_bytes reason) printed
-IsAnswerToFound question (founds.TheVariants.Answerable known) style printed = IsAnswerToKnown question known style printed
+abbrev pub IsAnswerToFound : Options → founds.Found → Style → Printed → Type 0
+IsAnswerToFound options (founds.TheVariants.Unanswerable reason) style printed = IsStopped (string_bytes reason) printed
+IsAnswerToFound options (founds.TheVariants.Answerable known) style printed = IsAnswerToKnown options known style printed
 
 -- What a run prints is the answer to what was found, and what was found follows from what the system calls returned
 -- (`IsFoundBy`).
-pub record IsAnswerOn (gives : Said → Bool) (question : Question) (clock : Option ℤ) (style : Style) (printed : Printed) : Type 0 where
+pub record IsAnswerOn (gives : Said → Bool) (command : Command) (clock : Option ℤ) (style : Style) (printed : Printed) : Type 0 where
   pub found : founds.Found
-  pub follows : IsFoundBy gives question clock found
-  pub answer : IsAnswerToFound question found style printed
+  pub follows : IsFoundBy gives command clock found
+  pub answer : IsAnswerToFound command.options found style printed

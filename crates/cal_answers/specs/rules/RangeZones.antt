@@ -1,12 +1,12 @@
 -- The zones that the start and the end of a range name: systemd.time(7), Parsing Timestamps.
-use Rattle.std.specs.Prelude.{◌≡◌, ◌≢◌, ℕ, true, false, if◌then◌else◌, List, [], Option, None, Some, Result, Ok, Err, is_some, slice_get}
+use Rattle.std.specs.Prelude.{◌≡◌, ◌≢◌, ℕ, true, false, if◌then◌else◌, List, [], Result, Ok, Err, is_some, string_bytes}
 use Rattle.std.specs.FinMap.{empty}
 use Rattle.std.specs.List.{after_last, list_any}
 use Rattle.cal_bytes.specs.rules.Separators.{is_blank}
 use Rattle.cal_civil.specs.rules.ZoneName.{is_zone_name}
 use Rattle.cal_machine.specs.rules.Machine.{Machine}
-use Rattle.cal_timers_command.specs.declared.question.Verb.{Verb}
-use Rattle.cal_timers_command.specs.declared.question.Verb.TheVariants as verbs
+use Rattle.cal_timers_command.specs.declared.question.Question.{Question}
+use Rattle.cal_timers_command.specs.declared.question.Question.TheVariants as questions
 use Rattle.cal_zone.specs.rules.ZoneTable.{ZoneMap, zone_named}
 use Rattle.cal_zone_files.specs.declared.fault.FileReason.{FileReason}
 use Rattle.cal_zone_files.specs.declared.fault.ZonesFault.{ZonesFault}
@@ -25,25 +25,30 @@ pub record HasZoneAtEnd (machine : Machine) (text : List ℕ) (table : ZoneMap) 
   pub lacks : is_zone_name (last_part text) ≡ true → is_some (zone_named table (last_part text)) ≡ false
       → (reason : FileReason) × IsReasonOn machine (last_part text) reason
 
-abbrev pub text_or_none : Option (List ℕ) → List ℕ
-text_or_none None = []
-text_or_none (Some text) = text
+-- the text of the range's start, which only `between` has; empty for other verbs
+abbrev pub range_start : Question → List ℕ
+range_start (questions.List given all) = []
+range_start (questions.Show given most) = []
+range_start (questions.Lint given all strict) = []
+range_start (questions.Between start end given all) = string_bytes start
+range_start (questions.Same a b) = []
+range_start (questions.Next given most) = []
+range_start (questions.Due given) = []
 
--- the text of the range's start (index 0) or its end (index 1), which are the first two targets of `between`; empty for
--- other verbs
-abbrev pub range_text : Verb → List (List ℕ) → ℕ → List ℕ
-range_text verbs.List targets index = []
-range_text verbs.Show targets index = []
-range_text verbs.Lint targets index = []
-range_text verbs.Between targets index = text_or_none (slice_get targets index)
-range_text verbs.Same targets index = []
-range_text verbs.Next targets index = []
-range_text verbs.Due targets index = []
+-- the text of the range's end; empty for other verbs than `between`
+abbrev pub range_end : Question → List ℕ
+range_end (questions.List given all) = []
+range_end (questions.Show given most) = []
+range_end (questions.Lint given all strict) = []
+range_end (questions.Between start end given all) = string_bytes end
+range_end (questions.Same a b) = []
+range_end (questions.Next given most) = []
+range_end (questions.Due given) = []
 
 -- the zones that the start and the end of the range can name on this machine
-pub record AreRangeZones (machine : Machine) (verb : Verb) (targets : List (List ℕ)) (zones : RangeZones) : Type 0 where
-  pub from : HasZoneAtEnd machine (range_text verb targets 0) zones.from
-  pub before : HasZoneAtEnd machine (range_text verb targets 1) zones.before
+pub record AreRangeZones (machine : Machine) (question : Question) (zones : RangeZones) : Type 0 where
+  pub from : HasZoneAtEnd machine (range_start question) zones.from
+  pub before : HasZoneAtEnd machine (range_end question) zones.before
 
 -- ## Steps
 

@@ -4,8 +4,8 @@ use Rattle.std.specs.Io.KnownBytes.{Appends}
 use Rattle.cal_bytes.specs.rules.Bytes.{joined}
 use Rattle.cal_bytes.specs.rules.Writes.{AppendsFront}
 use Rattle.cal_machine.specs.rules.Seen.{Said}
-use Rattle.cal_timers_command.specs.declared.question.Question.{Question}
-use Rattle.cal_timers_command.specs.rules.Asked.{IsFaultOf, IsQuestionOf, help, shown_question, usage}
+use Rattle.cal_timers_command.specs.declared.question.Command.{Command}
+use Rattle.cal_timers_command.specs.rules.Asked.{IsCommandOf, IsFaultOf, help, shown_command, usage}
 use Rattle.cal_timers_command.specs.rules.VerbFirst.{asks_due}
 use Rattle.cal_timers_report.specs.declared.style.Style.{Style}
 use Rattle.cal_answers.specs.rules.Output.{IsAnswerOn}
@@ -15,10 +15,10 @@ use Rattle.cal_answers.specs.rules.Printed.{Printed}
 
 -- the answer to the question that the arguments ask, at whatever time the machine's clock shows
 pub record IsAnswerTo (gives : Said → Bool) (arguments : List (List ℕ)) (style : Style) (printed : Printed) : Type 0 where
-  pub question : Question
-  pub asked : IsQuestionOf arguments (shown_question question)
+  pub command : Command
+  pub asked : IsCommandOf arguments (shown_command command)
   pub clock : Option ℤ
-  pub answered : IsAnswerOn gives question clock style printed
+  pub answered : IsAnswerOn gives command clock style printed
 
 -- the help or the version that the arguments ask for
 pub record IsHelpFor (arguments : List (List ℕ)) (printed : Printed) : Type 0 where
@@ -32,10 +32,10 @@ pub record IsUsageFor (arguments : List (List ℕ)) (printed : Printed) : Type 0
   pub nothing : printed.out ≡ []
   pub status : printed.status ≡ 2
 
--- the line which says that memory ran out, or that the zone of an expression isn't loaded
+-- the line which says that memory ran out
 pub record IsGivenUp (printed : Printed) : Type 0 where
   pub nothing : printed.out ≡ []
-  pub line : (printed.err ≡ codes "calendar-timers: out of memory\n") ⊎ (printed.err ≡ codes "calendar-timers: a zone isn't loaded\n")
+  pub line : printed.err ≡ codes "calendar-timers: out of memory\n"
   pub status : printed.status ≡ 1
 
 abbrev pub IsToPrint : (Said → Bool) → List (List ℕ) → Style → Printed → Type 0

@@ -3,7 +3,7 @@ use Rattle.std.specs.Prelude.{◌≡◌, ◌≢◌, ◌⊎◌, ⊤, ℕ, ℤ, fa
 use Rattle.std.specs.Option.{option_or}
 use Rattle.jiff.specs.Words.{read_whole}
 use Rattle.cal_machine.specs.rules.Machine.{Machine}
-use Rattle.cal_timers_command.specs.declared.question.Question.{Question}
+use Rattle.cal_timers_command.specs.declared.question.Command.{Command}
 use Rattle.cal_zone_files.specs.declared.fault.FileReason.{FileReason}
 use Rattle.cal_zone_files.specs.rules.MachineLocalZone.{MachineLocalZone}
 use Rattle.cal_zone_files.specs.rules.MachineLocalZone.MachineLocalZone.{InUtc, Ahead, ByRule, OfName, OfMachine, UnclearIn, UnreadIn}
@@ -25,26 +25,26 @@ IsUnusable machine OfMachine = ⊥
 IsUnusable machine (UnclearIn origin) = ⊤
 IsUnusable machine (UnreadIn origin) = ⊤
 
--- neither the question nor the clock states a present, or the stated second isn't an instant
-abbrev pub HasNoPresent : Question → Option ℤ → Type 0
-HasNoPresent question clock = IsPresent (option_or question.now clock) None
+-- neither the command nor the clock states a present, or the stated second isn't an instant
+abbrev pub HasNoPresent : Command → Option ℤ → Type 0
+HasNoPresent command clock = IsPresent (option_or command.options.now clock) None
 
--- the question names a root that isn't a folder; the empty text names no root
+-- the command names a root that isn't a folder; the empty text names no root
 abbrev pub HasNoRoot : Machine → List ℕ → Type 0
 HasNoRoot machine root = (root ≢ []) × (is_folder (machine.entry (codes "/")) ≡ false)
 
 -- the local zone, or the zone in which times are shown, can't be used
-abbrev pub HasNoZone : Machine → Question → Type 0
-HasNoZone machine question =
-    IsUnusable machine (local_zone_of machine question) ⊎ IsUnusable machine (shown_zone_of machine question)
+abbrev pub HasNoZone : Machine → Command → Type 0
+HasNoZone machine command =
+    IsUnusable machine (local_zone_of machine command) ⊎ IsUnusable machine (shown_zone_of machine command)
 
 -- the manager of the machine has no search path
-abbrev pub HasNoPath : Machine → Question → Type 0
-HasNoPath machine question = machine_path machine question.is_user ≡ None
+abbrev pub HasNoPath : Machine → Command → Type 0
+HasNoPath machine command = machine_path machine command.options.is_user ≡ None
 
--- a question can't be answered on this machine
-abbrev pub IsUnanswerableOn : Machine → Question → Option ℤ → Type 0
-IsUnanswerableOn machine question clock =
-    HasNoPresent question clock
-    ⊎ (HasNoRoot machine (string_bytes question.root)
-    ⊎ (HasNoZone machine question ⊎ HasNoPath machine question))
+-- the question of a command can't be answered on this machine
+abbrev pub IsUnanswerableOn : Machine → Command → Option ℤ → Type 0
+IsUnanswerableOn machine command clock =
+    HasNoPresent command clock
+    ⊎ (HasNoRoot machine (string_bytes command.options.root)
+    ⊎ (HasNoZone machine command ⊎ HasNoPath machine command))

@@ -1,35 +1,51 @@
--- Which question the arguments ask, or which error they have.
-use Rattle.std.specs.Prelude.{◌≡◌, ◌≢◌, ◌⊎◌, ◌<◌, ⊤, ℕ, ℤ, Bool, true, false, not, ◌&&◌, List, [], ◌∷◌, ◌++◌, Option, None, Some, Result, Ok, Err, codes, if◌then◌else◌, is_some, length, map, unwrap_or, option_map}
+-- What the arguments ask, or which error they have.
+use Rattle.std.specs.Prelude.{◌≡◌, ◌≢◌, ◌⊎◌, ◌<◌, ⊤, ℕ, ℤ, Bool, true, false, not, ◌&&◌, List, [], ◌∷◌, Option, None, Some, Result, Ok, Err, codes, if◌then◌else◌, is_some, length, map, unwrap_or, option_map}
 use Rattle.std.specs.List.{list_any}
 use Rattle.std.specs.Option.{option_map_or}
 use Rattle.std.specs.String.{string_bytes}
 use Rattle.clap.specs.Words.{Kinds, Row, Text, all_of, fault_of, first_of, subcommand_of}
 use Rattle.clap.specs.declared.error.kind.ErrorKind.{ErrorKind}
 use Rattle.clap.specs.declared.error.kind.ErrorKind.TheVariants.{DisplayHelp, DisplayVersion, OutOfMemory}
+use Rattle.cal_timers_command.specs.declared.question.Command as declared_command
+use Rattle.cal_timers_command.specs.declared.question.Options as declared_options
 use Rattle.cal_timers_command.specs.declared.question.Question as declared_question
-use Rattle.cal_timers_command.specs.declared.question.Verb.{Verb}
+use Rattle.cal_timers_command.specs.declared.question.Question.TheVariants as questions
+use Rattle.cal_timers_command.specs.declared.verb.Verb.{Verb}
+use Rattle.cal_timers_command.specs.declared.verb.Verb.TheVariants as verbs
 use Rattle.cal_timers_command.specs.declared.command_fault.CommandFault.{CommandFault}
 use Rattle.cal_timers_command.specs.declared.command_fault.CommandFault.TheVariants.{Usage, Help, NoMemory}
 use Rattle.cal_timers_command.specs.rules.CommandLine.{command_app}
 use Rattle.cal_timers_command.specs.rules.OptionValues.{bad_value, count_in, is_set, is_zone_first, no_value, present_in, text_in, zone_clash}
-use Rattle.cal_timers_command.specs.rules.Questions.{fits_verb, no_question}
+use Rattle.cal_timers_command.specs.rules.Questions.{default_count, no_question}
 use Rattle.cal_timers_command.specs.rules.VerbFirst.{verb_first}
 use Rattle.cal_timers_command.specs.rules.Verbs.{verb_named}
 
--- ## Questions and errors, with each string as the list of its bytes
+-- ## Commands and errors, with each string as the list of its bytes
 
-pub record Question : Type 0 where
-  pub verb : Verb
-  pub targets : List Text
+-- A question, with what its verb needs. A number is the maximum number of elapses. The truth values say whether `--all`
+-- and, of `lint`, whether `--strict` is given. `between` has the start and the end of the range before the timers.
+pub data Question : Type 0 where
+  list : List Text → Bool → Question
+  show : List Text → ℕ → Question
+  lint : List Text → Bool → Bool → Question
+  between : Text → Text → List Text → Bool → Question
+  same : Text → Text → Question
+  next : List Text → ℕ → Question
+  due : Option Text → Question
+
+-- the options that most verbs share
+pub record Options : Type 0 where
   pub zone : Option Text
   pub shown_in : Option Text
-  pub count : Option ℕ
   pub now : Option ℤ
   pub root : Text
   pub is_user : Bool
-  pub is_all : Bool
-  pub is_strict : Bool
   pub is_json : Bool
+
+-- what the arguments ask
+pub record Command : Type 0 where
+  pub question : Question
+  pub options : Options
 
 -- invalid arguments, or a request for help or the version, with the text to print; or a failed allocation
 pub data Fault : Type 0 where
@@ -38,19 +54,27 @@ pub data Fault : Type 0 where
   no_memory : Fault
 
 abbrev pub shown_question : declared_question.Question → Question
-shown_question question = record {
-  verb = question.verb;
-  targets = map string_bytes question.targets.items;
-  zone = option_map string_bytes question.zone;
-  shown_in = option_map string_bytes question.shown_in;
-  count = question.count;
-  now = question.now;
-  root = string_bytes question.root;
-  is_user = question.is_user;
-  is_all = question.is_all;
-  is_strict = question.is_strict;
-  is_json = question.is_json;
+shown_question (questions.List timers is_all) = list (map string_bytes timers.items) is_all
+shown_question (questions.Show timers count) = show (map string_bytes timers.items) count
+shown_question (questions.Lint timers is_all is_strict) = lint (map string_bytes timers.items) is_all is_strict
+shown_question (questions.Between from to timers is_all) =
+    between (string_bytes from) (string_bytes to) (map string_bytes timers.items) is_all
+shown_question (questions.Same one other) = same (string_bytes one) (string_bytes other)
+shown_question (questions.Next expressions count) = next (map string_bytes expressions.items) count
+shown_question (questions.Due timer) = due (option_map string_bytes timer)
+
+abbrev pub shown_options : declared_options.Options → Options
+shown_options options = record {
+  zone = option_map string_bytes options.zone;
+  shown_in = option_map string_bytes options.shown_in;
+  now = options.now;
+  root = string_bytes options.root;
+  is_user = options.is_user;
+  is_json = options.is_json;
 }
+
+abbrev pub shown_command : declared_command.Command → Command
+shown_command command = record { question = shown_question command.question; options = shown_options command.options }
 
 abbrev pub shown_fault : CommandFault → Fault
 shown_fault (Usage text) = usage (string_bytes text)
@@ -65,10 +89,16 @@ option_value read message None = Ok None
 option_value read message (Some text) =
     option_map_or (λ value. Ok (Some value)) (read text) (Err (usage (message text)))
 
--- the value of `--count`, or None if the option isn't given
-unfoldable pub count_value : List Row → Result (Option ℕ) Fault
+-- the result of `step` for this value, or this error
+abbrev pub then_with : {A B : Type 0} → Result A Fault → (A → Result B Fault) → Result B Fault
+then_with (Ok value) step = step value
+then_with (Err fault) step = Err fault
+
+-- the value of `--count`, or `default_count` if the option isn't given
+unfoldable pub count_value : List Row → Result ℕ Fault
 count_value rows =
-    option_value count_in (bad_value (codes "count") (codes "N") (codes "expected 1 to 1000000")) (first_of (codes "count") rows)
+    then_with (option_value count_in (bad_value (codes "count") (codes "N") (codes "expected 1 to 1000000")) (first_of (codes "count") rows))
+    (λ count. Ok (unwrap_or count default_count))
 
 -- the value of `--now` in seconds of Unix time, or None if the option isn't given
 unfoldable pub now_value : List Row → Result (Option ℤ) Fault
@@ -88,50 +118,73 @@ unfoldable pub zone_value : List Row → Result (Option Text) Fault
 zone_value rows =
     if is_set (codes "utc") rows then Ok (Some (codes "UTC")) else text_value (codes "zone") (codes "ZONE") rows
 
-abbrev pub one_text : Option Text → List Text
-one_text None = []
-one_text (Some text) = text ∷ []
-
--- the two targets that `between` and `same` need, and then all others, in the order in which they are given
-unfoldable pub targets_in : List Row → List Text
-targets_in rows =
-    one_text (first_of (codes "first") rows) ++ one_text (first_of (codes "second") rows)
-    ++ unwrap_or (all_of (codes "target") rows) []
-
--- the result of `next` for this value, or this error
-abbrev pub then_with : {A B : Type 0} → Result A Fault → (A → Result B Fault) → Result B Fault
-then_with (Ok value) next = next value
-then_with (Err fault) next = Err fault
-
 -- the value of `--root`, or an empty text if the option isn't given
 unfoldable pub root_value : List Row → Result Text Fault
 root_value rows =
     then_with (text_value (codes "root") (codes "DIR") rows) (λ root. Ok (unwrap_or root []))
 
--- What a verb with these values asks, or the error of the first invalid value, in the order below. `clap` accepts only
--- numbers of targets that fit the verb, so `no_question` is never the error; but this isn't proved.
-unfoldable pub question_for : Verb → List Row → Result Question Fault
-question_for verb rows =
-    if not (fits_verb verb (length (targets_in rows))) then Err (usage no_question)
-    else if has_clash rows then Err (usage (zone_clash (is_zone_first rows)))
-    else then_with (count_value rows) (λ count.
-    then_with (now_value rows) (λ now.
+-- the options that most verbs share, or the error of the first invalid value, in the order below
+unfoldable pub options_for : List Row → Result Options Fault
+options_for rows =
+    if has_clash rows then Err (usage (zone_clash (is_zone_first rows)))
+    else then_with (now_value rows) (λ now.
     then_with (zone_value rows) (λ zone.
     then_with (text_value (codes "in") (codes "ZONE") rows) (λ shown_in.
     then_with (root_value rows) (λ root.
     Ok (record {
-      verb = verb;
-      targets = targets_in rows;
       zone = zone;
       shown_in = shown_in;
-      count = count;
       now = now;
       root = root;
       is_user = is_set (codes "user") rows;
-      is_all = is_set (codes "all") rows;
-      is_strict = is_set (codes "strict") rows;
       is_json = is_set (codes "json") rows;
-    }))))))
+    })))))
+
+-- ## What a verb with these values asks
+
+-- The value of a required argument, or the error that it isn't given. `clap` accepts no arguments without it, so
+-- `no_question` is never the error; but this isn't proved.
+abbrev pub needed : Option Text → Result Text Fault
+needed None = Err (usage no_question)
+needed (Some text) = Ok text
+
+-- these texts, or the error `no_question` if there are none; what is said of this error at `needed` holds here, too
+abbrev pub one_or_more : List Text → Result (List Text) Fault
+one_or_more [] = Err (usage no_question)
+one_or_more (text ∷ texts) = Ok (text ∷ texts)
+
+-- the timers, or the expressions of `next`, in the order in which they are given
+abbrev pub targets_in : List Row → List Text
+targets_in rows = unwrap_or (all_of (codes "target") rows) []
+
+-- the question that a verb with these values asks, or the error of the first invalid value
+unfoldable pub question_for : Verb → List Row → Result Question Fault
+question_for verbs.List rows = Ok (list (targets_in rows) (is_set (codes "all") rows))
+question_for verbs.Show rows =
+    then_with (one_or_more (targets_in rows)) (λ timers.
+    then_with (count_value rows) (λ count.
+    Ok (show timers count)))
+question_for verbs.Lint rows = Ok (lint (targets_in rows) (is_set (codes "all") rows) (is_set (codes "strict") rows))
+question_for verbs.Between rows =
+    then_with (needed (first_of (codes "first") rows)) (λ from.
+    then_with (needed (first_of (codes "second") rows)) (λ to.
+    Ok (between from to (targets_in rows) (is_set (codes "all") rows))))
+question_for verbs.Same rows =
+    then_with (needed (first_of (codes "first") rows)) (λ one.
+    then_with (needed (first_of (codes "second") rows)) (λ other.
+    Ok (same one other)))
+question_for verbs.Next rows =
+    then_with (one_or_more (targets_in rows)) (λ expressions.
+    then_with (count_value rows) (λ count.
+    Ok (next expressions count)))
+question_for verbs.Due rows = Ok (due (first_of (codes "target") rows))
+
+-- what a verb with these values asks, or the error of the first invalid value: those of the question come first
+unfoldable pub command_for : Verb → List Row → Result Command Fault
+command_for verb rows =
+    then_with (question_for verb rows) (λ question.
+    then_with (options_for rows) (λ options.
+    Ok (record { question = question; options = options })))
 
 -- ## What the arguments ask
 
@@ -141,17 +194,17 @@ faults_in arguments = fault_of command_app (verb_first arguments)
 
 -- what is asked, or the first error, given what `clap` finds: the name of the verb, and the values of the options and
 -- targets
-unfoldable pub question_found : Option (Text × List Row) → Result Question Fault
-question_found found =
-    option_map_or (λ (pair : Text × List Row). option_map_or (λ verb. question_for verb pair.1) (verb_named pair.0) (Err (usage no_question)))
+unfoldable pub command_found : Option (Text × List Row) → Result Command Fault
+command_found found =
+    option_map_or (λ (pair : Text × List Row). option_map_or (λ verb. command_for verb pair.1) (verb_named pair.0) (Err (usage no_question)))
     found (Err (usage no_question))
 
 -- what the arguments ask if `clap` parses them, or the error of the first invalid value
-unfoldable pub answer_in : List Text → Result Question Fault
-answer_in arguments = question_found (subcommand_of command_app (verb_first arguments))
+unfoldable pub answer_in : List Text → Result Command Fault
+answer_in arguments = command_found (subcommand_of command_app (verb_first arguments))
 
 -- `clap` parses the arguments, and `answer` is what they ask, or the error of the first invalid value
-abbrev pub HasRead : List Text → Result Question Fault → Type 0
+abbrev pub HasRead : List Text → Result Command Fault → Type 0
 HasRead arguments answer = (faults_in arguments ≡ []) × (answer_in arguments ≡ answer)
 
 -- whether an error of this kind is a request for help or the version
@@ -160,9 +213,9 @@ is_of_help DisplayHelp = true
 is_of_help DisplayVersion = true
 is_of_help _ = false
 
--- the arguments ask this question
-abbrev pub IsQuestionOf : List Text → Question → Type 0
-IsQuestionOf arguments question = HasRead arguments (Ok question)
+-- the arguments ask this
+abbrev pub IsCommandOf : List Text → Command → Type 0
+IsCommandOf arguments command = HasRead arguments (Ok command)
 
 -- `fault` may be reported if `clap` reports one of the errors `kinds`. Unless `fault` is a failed allocation, its text
 -- is written by `clap`: the text isn't empty, and nothing else is known about it.

@@ -7,8 +7,8 @@ use Rattle.clap.specs.declared.builder.action.ArgAction.TheVariants.{Append, Set
 use Rattle.cal_timers_command.specs.declared.arguments.Argument.{Argument}
 use Rattle.cal_timers_command.specs.declared.arguments.ArgumentForm.{ArgumentForm}
 use Rattle.cal_timers_command.specs.declared.arguments.ArgumentForm.TheVariants.{Value, ShortValue, Flag, ShortFlag, One, AtMostOne, Any, AtLeastOne}
-use Rattle.cal_timers_command.specs.declared.question.Verb.{Verb}
-use Rattle.cal_timers_command.specs.declared.question.Verb.TheVariants.{List, Show, Lint, Between, Same, Next, Due}
+use Rattle.cal_timers_command.specs.declared.verb.Verb.{Verb}
+use Rattle.cal_timers_command.specs.declared.verb.Verb.TheVariants.{List, Show, Lint, Between, Same, Next, Due}
 use Rattle.cal_timers_command.specs.rules.Verbs.{all_verbs, verb_name}
 use Rattle.cal_timers_command.specs.rules.VerbFirst.{needs_value}
 

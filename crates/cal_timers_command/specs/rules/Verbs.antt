@@ -2,8 +2,8 @@
 use Rattle.std.specs.Prelude.{ℕ, ◌==◌, Bool, List as ListOf, [], ◌∷◌, Option, chars, codes, find, length}
 use Rattle.std.specs.Str.{bytes_eq}
 use Rattle.strsim.specs.Edits.{osa_table}
-use Rattle.cal_timers_command.specs.declared.question.Verb.{Verb}
-use Rattle.cal_timers_command.specs.declared.question.Verb.TheVariants.{List, Show, Lint, Between, Same, Next, Due}
+use Rattle.cal_timers_command.specs.declared.verb.Verb.{Verb}
+use Rattle.cal_timers_command.specs.declared.verb.Verb.TheVariants.{List, Show, Lint, Between, Same, Next, Due}
 
 -- the verbs, in the order in which the help lists them
 abbrev pub all_verbs : ListOf Verb

@@ -1,4 +1,4 @@
 use Rattle.cal_answers.proofs.loading.load_due.Goals as goal
 
 pub returns-clause-known : goal.returns-clause-known
-returns-clause-known g c = c.in_ok-timer.ensures.known
+returns-clause-known g c = λ machine path shows is. rw c.in-Some.is (c.in_ok-timer.ensures.known machine path shows is)

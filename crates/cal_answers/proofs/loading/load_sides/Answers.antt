@@ -1,8 +1,7 @@
-use Rattle.cal_answers.proofs.FoundLemmas.{two_sides}
 use Rattle.cal_answers.proofs.loading.load_sides.Goals as goal
 
 pub returns-clause-known : goal.returns-clause-known
-returns-clause-known g c = λ machine path shows is.
-    two_sides machine path c.args.targets.now _ c.in_ok-first.first c.in_ok-second.second c.requires
-    (c.in_ok-first.ensures.known machine path (c.in_ok-second.ensures.grows machine shows) is)
-    (c.in_ok-second.ensures.known machine path shows is)
+returns-clause-known g c = λ machine path shows is. (
+  c.in_ok-first.ensures.known machine path (c.in_ok-second.ensures.grows machine shows) is,
+  c.in_ok-second.ensures.known machine path shows is,
+)

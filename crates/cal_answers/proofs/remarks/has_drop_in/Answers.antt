@@ -8,5 +8,5 @@ use Rattle.cal_answers.proofs.remarks.has_drop_in.Goals as goal
 
 pub returns : goal.returns
 returns c =
-    any_from_yields_List (λ target. is_drop_in (string_bytes target)) _ _ c.any.result c.any.ensures.ran (YieldsList-from_slice c.args.targets.now cc) (λ x b q k. search (rules, tests))
-    ∙ sym (list_any-map is_drop_in string_bytes c.args.targets.now)
+    any_from_yields_List (λ target. is_drop_in (string_bytes target)) _ _ c.any.result c.any.ensures.ran (YieldsList-from_slice c.args.named.now cc) (λ x b q k. search (rules, tests))
+    ∙ sym (list_any-map is_drop_in string_bytes c.args.named.now)

@@ -1,7 +1,0 @@
-use Rattle.std.proofs.Common.{◌≡◌, ◌++◌, map, string_bytes, take}
-use Rattle.cal_timers_command.specs.rules.Texts.{texts_of}
-use Rattle.cal_timers_command.proofs.find.push_texts.Given as goal
-
--- the texts before the current one have been copied
-abbrev pub invariant-loop-text : goal.invariant-loop-text
-invariant-loop-text l = map string_bytes l.targets.items ≡ map string_bytes l.fn.targets.items ++ texts_of (take l.text-index l.texts)

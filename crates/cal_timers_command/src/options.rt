@@ -1,0 +1,33 @@
+//! The options that most verbs share, from the matches that `clap` returns.
+
+ghost use Rattle.std.specs.Prelude.{◌≡◌, Ok, IfErr, IfOk};
+ghost use Rattle.clap.specs.Words.{found_of, rows_of};
+ghost use Rattle.cal_timers_command.specs.rules.Asked.{IsFaultIn, options_for, shown_options};
+
+use crate::arguments::{JSON, USER};
+use crate::command_fault::CommandFault;
+use crate::question::Options;
+use crate::values::{check_zone, is_set, now_of, root_of, shown_in_value, zone_value};
+use clap::ArgMatches;
+use std::alloc::Global;
+
+/// Returns the options that most verbs share, or the error of the first invalid value. An option that the verb doesn't
+/// have counts as not given.
+pub(crate) fn options_of(alloc: Global, values: &ArgMatches<'_>) -> Result<Options, CommandFault>
+    ensures options { IfOk result (λ options. options_for (rows_of (found_of values.now)) ≡ Ok (shown_options options)) }
+    ensures fault { IfErr result (IsFaultIn (options_for (rows_of (found_of values.now)))) }
+{
+    check_zone(alloc, values)?;
+    let now = now_of(alloc, values)?;
+    let zone = zone_value(alloc, values)?;
+    let shown_in = shown_in_value(alloc, values)?;
+    let root = root_of(alloc, values)?;
+    Ok(Options {
+        zone,
+        shown_in,
+        now,
+        root,
+        is_user: is_set(values, USER.name),
+        is_json: is_set(values, JSON.name),
+    })
+}
