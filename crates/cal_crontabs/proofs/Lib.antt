@@ -1,0 +1,2 @@
+mod DocumentLemmas
+mod EntryLemmas

@@ -1,0 +1,35 @@
+-- The error lines about invalid entries of crontabs.
+use Rattle.std.specs.Prelude.{ℕ, nat_lt, if◌then◌else◌, List, [], ◌++◌, Result, codes, length}
+use Rattle.std.specs.Fmt.{decimal}
+use Rattle.std.specs.List.{flat_map}
+use Rattle.cal_cron.specs.declared.cron_fault.CronFault.{CronFault}
+use Rattle.cal_cron.specs.rules.CronMatch.{CronExprs}
+use Rattle.cal_cron.specs.rules.CronMessages.{entry_message}
+use Rattle.cal_cron.specs.rules.CrontabLines.{Content, Line, LineFault, Assigns, Runs, Invalid, crontab_lines}
+use Rattle.cal_timers_report.specs.rules.PrintableText.{printable_text}
+use Rattle.cal_crontabs.specs.rules.Crontabs.{Crontab}
+use Rattle.cal_crontabs.specs.rules.Entries.{max_text}
+
+-- the name of the crontab, the number of the line, the column and the message
+abbrev pub error_line : List ℕ → ℕ → LineFault → List ℕ
+error_line name number fault =
+    printable_text name
+    ++ (codes ":" ++ (decimal number ++ (codes ":" ++ (decimal fault.column ++ (codes ": error: " ++ (entry_message fault.fault ++ codes "\n"))))))
+
+abbrev pub error_lines_by : List ℕ → ℕ → Content → List ℕ
+error_lines_by name number (Assigns assignment) = []
+error_lines_by name number (Runs entry) = []
+error_lines_by name number (Invalid fault) = error_line name number fault
+
+-- the error line about a line of a crontab, if its entry isn't valid
+abbrev pub error_lines_at : Crontab → Line → List ℕ
+error_lines_at crontab line = error_lines_by crontab.name line.number line.content
+
+abbrev pub error_lines_in : Crontab → List Line → List ℕ
+error_lines_in crontab lines = flat_map (error_lines_at crontab) lines
+
+-- the error lines about a crontab, in the order of its lines; `read` reads time fields
+unfoldable pub error_lines_of : (List ℕ → Result CronExprs CronFault) → Crontab → List ℕ
+error_lines_of read crontab =
+    if nat_lt max_text (length crontab.text) then []
+    else error_lines_in crontab (crontab_lines read crontab.format crontab.text)

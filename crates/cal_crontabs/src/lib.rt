@@ -1,0 +1,17 @@
+//! Reading crontabs, and the report of their entries as settings of timers.
+#![tactic(auto)]
+
+mod crontabs;
+mod document;
+mod entries;
+mod entry_text;
+mod error_lines;
+mod folders;
+mod laws;
+mod notes;
+
+pub use crontabs::{Crontab, Crontabs, load_crontabs};
+pub use document::entries_json;
+pub use entries::{CronEntry, CronReport, cron_report};
+pub use entry_text::entries_text;
+pub use laws::times_are_read;
