@@ -5,7 +5,7 @@ ghost use Rattle.std.specs.List.{flat_map};
 ghost use Rattle.cal_tasks.specs.rules.SameReport.{comparison_of};
 ghost use Rattle.cal_timers_report.specs.rules.ReportView.{comparison_seen};
 ghost use Rattle.cal_answers.specs.rules.ErrorText.{has_target, line_unless, lines_of_both};
-ghost use Rattle.cal_answers.specs.rules.Output.{IsComparedAnswer, IsSameAnswer, IsUnloadedPair, folder_of_both, if_folder, is_loaded_folder, is_named, is_same, same_output};
+ghost use Rattle.cal_answers.specs.rules.Output.{IsComparedAnswer, IsSameAnswer, IsUnloadedPair, folder_of_both, if_folder, is_loaded_folder, is_named, is_same, not_a_timer, same_output};
 ghost use Rattle.cal_answers.specs.rules.Printed.{printed_of};
 ghost use Rattle.cal_bytes.specs.rules.Trim.{trim_end_matches};
 ghost use Rattle.cal_machine.specs.rules.Places.{is_slash};
@@ -34,7 +34,7 @@ pub(crate) fn same(
         IsSameAnswer asked.entry one.now other.now first.now second.now (printed_of answer)) }
 {
     if let Some(folder) = folder_of_both(one, other, first, second) {
-        let reason = format!(in alloc; "{folder}: a directory, not a timer")?;
+        let reason = not_a_timer(alloc, folder)?;
         return stopped(alloc, reason.as_str());
     }
     match (first.timers.first(), second.timers.first()) {
@@ -56,6 +56,13 @@ fn folder_of_both<'t>(
     ensures { option_map (λ folder. folder.now) result ≡ folder_of_both one.now other.now first.now second.now }
 {
     if_folder(one, first).or(if_folder(other, second))
+}
+
+/// Returns the reason for which a folder is rejected.
+pub(crate) fn not_a_timer(alloc: Global, folder: &str) -> Result<String, AllocError>
+    ensures { IfOk result (λ reason. string_bytes reason ≡ not_a_timer folder.now) }
+{
+    Ok(format!(in alloc; "{folder}: a directory, not a timer")?)
 }
 
 /// Returns the target if it was loaded as a folder.

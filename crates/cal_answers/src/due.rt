@@ -6,7 +6,7 @@ ghost use Rattle.cal_answers.specs.rules.Output.{IsDueAnswer, IsFirstDue, IsUnlo
 ghost use Rattle.cal_answers.specs.rules.Printed.{printed_of};
 
 use crate::answer::{Answer, Asked, INVALID, fault_lines, push_masked, stopped, with_error_lines};
-use crate::compare::if_folder;
+use crate::compare::{if_folder, not_a_timer};
 use cal_load::{Loaded, LoadedTimer};
 use cal_tasks::{DueRun, due_run};
 use cal_timers_report::{DueReport, DueVerdict, due_json, due_text};
@@ -58,7 +58,7 @@ fn due_by(
         IsDueAnswer asked.entry (option_map (λ name. name.now) named.entry) (Some loaded.now) (printed_of answer)) }
 {
     if let Some(folder) = folder_of(named, loaded) {
-        let reason = format!(in alloc; "{folder}: a directory, not a timer")?;
+        let reason = not_a_timer(alloc, folder)?;
         return stopped(alloc, reason.as_str());
     }
     match loaded.timers.first() {
