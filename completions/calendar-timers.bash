@@ -76,7 +76,7 @@ _calendar_timers_targets() {
 
 # Offers what the verb $1 takes after $4 arguments that are not options.
 _calendar_timers_words() {
-    local verb=$1 whole=$2 scope=$3 targets=$4 verbs='list show lint between same next due'
+    local verb=$1 whole=$2 scope=$3 targets=$4 verbs='list show lint between same next due cron'
     case $verb,$targets in
     ,*) _calendar_timers_targets "$whole" "$scope" "$verbs help" ;;
     help,0) _calendar_timers_offer "$whole" '' < <(compgen -W "$verbs" -- "$whole") ;;
@@ -88,13 +88,17 @@ _calendar_timers_words() {
         _calendar_timers_offer "$whole" '' \
             < <(compgen -W 'minutely hourly daily weekly monthly quarterly semiannually yearly' -- "$whole")
         ;;
+    cron,*)
+        compopt -o filenames 2> /dev/null
+        _calendar_timers_offer "$whole" '' < <(compgen -f -- "${whole//\\/}")
+        ;;
     *) _calendar_timers_targets "$whole" "$scope" '' ;;
     esac
 }
 
 _calendar_timers() {
     # Takes the word at the cursor and the words before it from the line, because bash splits words at `=` and `:`.
-    local line=${COMP_LINE:0:COMP_POINT} verbs='list show lint between same next due' options=''
+    local line=${COMP_LINE:0:COMP_POINT} verbs='list show lint between same next due cron' options=''
     local whole words word verb='' option='' ended='' scope='' targets=0
     line=${line#*"${COMP_WORDS[0]}"}
     [[ $line =~ ((\\.|[^[:space:]\\])*)$ ]] && whole=${BASH_REMATCH[1]}
@@ -120,6 +124,7 @@ _calendar_timers() {
     next) options='--count= --zone= --utc --in= --now= --root= --json --help' ;;
     lint) options='--all --strict --zone= --utc --now= --root= --user --json --help' ;;
     same | due) options='--zone= --utc --in= --now= --root= --user --json --help' ;;
+    cron) options='--root= --json --help' ;;
     help) ;;
     *) options='--all --zone= --utc --in= --now= --root= --user --json --help' ;;
     esac

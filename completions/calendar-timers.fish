@@ -62,7 +62,7 @@ function __calendar_timers_verb_is
     set -l verb none
     if set -q words[1]
         set verb list
-        contains -- $words[1] show lint between same next due help; and set verb $words[1]
+        contains -- $words[1] show lint between same next due cron help; and set verb $words[1]
     end
     contains -- $verb $argv
 end
@@ -73,7 +73,8 @@ function __calendar_timers_has
 end
 
 set -l none '__calendar_timers_verb_is none'
-set -l all '__calendar_timers_verb_is none list show lint between same next due'
+set -l timers '__calendar_timers_verb_is none list show lint between same next due'
+set -l all '__calendar_timers_verb_is none list show lint between same next due cron'
 set -l times 'now today yesterday tomorrow'
 set -l folders '(__fish_complete_directories (commandline -ct) folder)'
 set -l expressions 'minutely hourly daily weekly monthly quarterly semiannually yearly'
@@ -86,15 +87,19 @@ complete -c calendar-timers -n $none -a between -d 'list all elapses of timers i
 complete -c calendar-timers -n $none -a same -d 'check whether two timers elapse at the same instants'
 complete -c calendar-timers -n $none -a next -d 'show when calendar expressions next elapse'
 complete -c calendar-timers -n $none -a due -d 'check whether the run that starts now is due, for ExecCondition='
+complete -c calendar-timers -n $none -a cron -d 'translate the entries of crontabs to timer settings'
 complete -c calendar-timers -n $none -a help -d 'print help, or the help of a verb'
 complete -c calendar-timers -n $none -s V -l version -d 'print the version'
 complete -c calendar-timers -n $all -s h -l help -d 'print help'
-complete -c calendar-timers -n $all -l zone -x -a '(__calendar_timers_zones)' -d 'local zone'
-complete -c calendar-timers -n $all -l utc -d 'use UTC as the local zone'
+complete -c calendar-timers -n $timers -l zone -x -a '(__calendar_timers_zones)' -d 'local zone'
+complete -c calendar-timers -n $timers -l utc -d 'use UTC as the local zone'
 complete -c calendar-timers -n '__calendar_timers_verb_is none list show between same next due' -l in -x \
     -a '(__calendar_timers_zones)' -d 'show times in this zone'
-complete -c calendar-timers -n $all -l now -x -a '@' -d 'current time in Unix seconds'
-complete -c calendar-timers -n $all -l root -x -a $folders -d 'look for units and zones below this directory'
+complete -c calendar-timers -n $timers -l now -x -a '@' -d 'current time in Unix seconds'
+complete -c calendar-timers -n $timers -l root -x -a $folders -d 'look for units and zones below this directory'
+complete -c calendar-timers -n '__calendar_timers_verb_is cron' -l root -x -a $folders \
+    -d 'look for crontabs below this directory'
+complete -c calendar-timers -n '__calendar_timers_verb_is cron' -F
 complete -c calendar-timers -n $all -l json -d 'print JSON'
 complete -c calendar-timers -n '__calendar_timers_verb_is none list show lint between same due' -l user \
     -d 'look for the units of the user, not of the system'
@@ -113,4 +118,4 @@ complete -c calendar-timers -n '__calendar_timers_verb_is next' -a $expressions
 complete -c calendar-timers -n '__calendar_timers_verb_is due; and __calendar_timers_has -eq 1' \
     -a '(__calendar_timers_targets)'
 complete -c calendar-timers -n '__calendar_timers_verb_is help; and __calendar_timers_has -eq 1' \
-    -a 'list show lint between same next due'
+    -a 'list show lint between same next due cron'

@@ -107,9 +107,9 @@ calendar-analyze_timestamp_--_-to ->
 calendar-analyze_timestamp_--_to -> today tomorrow
 calendar-analyze_calendar_d -> daily
 calendar-analyze_timestamp_to -> today tomorrow
-calendar-timers_ -> a@1.timer list.timer logrotate.timer units list show lint between same next due help
+calendar-timers_ -> a@1.timer list.timer logrotate.timer units list show lint between same next due cron help
 calendar-timers_l -> list lint list.timer logrotate.timer
-calendar-timers_help_ -> list show lint between same next due
+calendar-timers_help_ -> list show lint between same next due cron
 calendar-timers_help_show_ -> 
 calendar-timers_show_ -> a@1.timer list.timer logrotate.timer units
 calendar-timers_show_./ -> ./backup.timer ./units
@@ -130,6 +130,8 @@ calendar-timers_same_a_b_ ->
 calendar-timers_due_lo -> logrotate.timer
 calendar-timers_due_a_ -> 
 calendar-timers_due_-- -> --zone= --utc --in= --now= --root= --user --json --help
+calendar-timers_cron_ba -> backup.timer
+calendar-timers_cron_-- -> --root= --json --help
 calendar-timers_--zone= -> UTC posix:
 calendar-timers_--zone=po -> posix:
 calendar-timers_--zone_po -> posix:
@@ -170,6 +172,8 @@ calendar-timers_between_now_tomorrow_l -> list.timer logrotate.timer
 calendar-timers_same_a_lo -> logrotate.timer
 calendar-timers_due_lo -> logrotate.timer
 calendar-timers_due_-- -> --zone --utc --in --now --root --user --json --help
+calendar-timers_cron_ba -> backup.timer
+calendar-timers_cron_-- -> --root --json --help
 calendar-timers_--zone= -> UTC posix:
 calendar-timers_--json_show_l -> list.timer logrotate.timer
 END
@@ -203,6 +207,8 @@ calendar-timers_between_now_tomorrow_l -> list.timer logrotate.timer
 calendar-timers_same_a_lo -> logrotate.timer
 calendar-timers_due_lo -> logrotate.timer
 calendar-timers_due_-- -> --zone --utc --in --now --root --user --json --help
+calendar-timers_cron_ba -> backup.timer
+calendar-timers_cron_-- -> --root --json --help
 calendar-timers_--zone= -> UTC posix:
 calendar-timers_--json_show_l -> list.timer logrotate.timer
 END

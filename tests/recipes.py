@@ -14,8 +14,8 @@ which the pages don't show: the root has the units of the host web1 in HOSTS, an
 command for that host.
 
 Besides, shellcheck has to accept all blocks and scripts; the script `rest` has to complete an output that was cut after any
-byte; `calendar-timers lint` has to accept the timers of this machine's packages; and each row of the table for crontab has to
-elapse when cron runs its line. What needs a missing tool is skipped. The last line is 'N passed, M failed', with ', K skipped'
+byte; `calendar-timers lint` has to accept the timers of this machine's packages; and what `calendar-timers cron` prints for
+each line in CRONTAB has to elapse when cron runs the line. What needs a missing tool is skipped. The last line is 'N passed, M failed', with ', K skipped'
 if some were, and the status is 1 if one failed."""
 
 import datetime
@@ -49,6 +49,22 @@ HOSTS = {
 NOON = "@1798110000"
 # The values of the five fields of a crontab line: minute, hour, day, month, and weekday from Sunday on.
 FIELDS = [range(60), range(24), range(1, 32), range(1, 13), range(7)]
+CRONTAB = [
+    "*/15 * * * *",
+    "*/7 * * * *",
+    "@hourly",
+    "0,30 9-17 * * 1-5",
+    "30 2 * * *",
+    "0 */5 * * *",
+    "@daily",
+    "@weekly",
+    "0 12 */2 * *",
+    "0 6 13 * 5",
+    "0 6 */13 * 5",
+    "5 4 1-7,15 2-12/5 *",
+    "@monthly",
+    "@yearly",
+]
 NICKNAMES = {
     "@hourly": "0 * * * *",
     "@daily": "0 0 * * *",
@@ -186,18 +202,16 @@ class Recipes:
         self.expect("the timers of packages", self.run(["calendar-timers", "lint", *PACKAGED], self.scripts), "")
 
     def crontab(self):
-        """Compares the elapses of each row in 2024 with the minutes at which cron runs its line."""
-        table = read("docs/RECIPES.md").partition("## From crontab")[2].partition("\n## ")[0]
-        for left, right in re.findall(r"^\| (.*) \| (.*) \|$", table, re.M)[1:]:
-            lines = [f"OnCalendar={expression}\n" for expression in re.findall(r"`([^`]*)`", right.partition(", since ")[0])]
-            write(f"{self.scratch}/timer", "".join(["[Timer]\n", *lines]))
-            for line in re.findall(r"`([^`]*)`", left):
-                wanted = cron_minutes(NICKNAMES.get(line, line))
-                arguments = ["timer", f"--iterations={len(wanted) + 1}", "--now=@1704067199", "timer"]
-                report = self.run(["calendar-analyze", *arguments], self.scratch)
-                found = [elapse for elapse in ELAPSE.findall(report) if elapse[4:8] == "2024"]
-                different = next((pair for pair in zip_longest(found, wanted) if pair[0] != pair[1]), ("", ""))
-                self.expect(f"crontab: {line}", f"{different[0]}\n", f"{different[1]}\n")
+        """Compares the elapses in 2024 of what `cron` prints for each line with the minutes at which cron runs the line."""
+        for line in CRONTAB:
+            settings = self.run(["calendar-timers", "cron", line], self.scratch)
+            write(f"{self.scratch}/timer", f"[Timer]\n{settings}")
+            wanted = cron_minutes(NICKNAMES.get(line, line))
+            arguments = ["timer", f"--iterations={len(wanted) + 1}", "--now=@1704067199", "timer"]
+            report = self.run(["calendar-analyze", *arguments], self.scratch)
+            found = [elapse for elapse in ELAPSE.findall(report) if elapse[4:8] == "2024"]
+            different = next((pair for pair in zip_longest(found, wanted) if pair[0] != pair[1]), ("", ""))
+            self.expect(f"crontab: {line}", f"{different[0]}\n", f"{different[1]}\n")
 
 
 def field_values(field, whole):

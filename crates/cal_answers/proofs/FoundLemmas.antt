@@ -130,6 +130,7 @@ loaded_at Knows machine path all_units about (loads.Next timers expressions coun
     made_at (λ other. (folders : List (List ℕ)) × Knows other folders) (λ other. (folders : List (List ℕ)) × ((other ≡ machine) × (folders ≡ path)))
     (map string_bytes expressions.now) timers (λ other is. (path, subst (λ other. Knows other path) (sym is.1.0) knows)) all
 loaded_at Knows machine path all_units about (loads.Due timer named) knows all = due_at Knows machine path about timer knows all
+loaded_at Knows machine path all_units about (loads.Cron crontabs named) knows all = tt
 
 -- what is known for a question is true on a machine (`IsKnownOn`) if each part of it is; `path` is the search path, or
 -- has no folders

@@ -1,3 +1,4 @@
+mod CronLemmas
 mod ErrorLemmas
 pub mod FoundLemmas
 mod LintFileLemmas

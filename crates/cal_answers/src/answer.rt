@@ -13,6 +13,7 @@ ghost use Rattle.cal_timers_text.specs.rules.ErrorLines.{broken_line, fault_line
 
 use crate::between::between;
 use crate::compare::same;
+use crate::cron::cron;
 use crate::due::due;
 use crate::found::{Found, Known, LoadedByVerb};
 use crate::index::with_unreadable;
@@ -144,7 +145,8 @@ fn answer_asked(alloc: Global, known: &Known<'_>, asked: Asked<'_>) -> Result<An
         | LoadedByVerb::Lint { .. }
         | LoadedByVerb::Between { .. }
         | LoadedByVerb::Same { .. }
-        | LoadedByVerb::Next { .. } => with_remarks(alloc, known, answer),
+        | LoadedByVerb::Next { .. }
+        | LoadedByVerb::Cron { .. } => with_remarks(alloc, known, answer),
     }
 }
 
@@ -211,6 +213,7 @@ fn answer_loaded(
             other,
         } => same(alloc, asked, one, other, first, second),
         LoadedByVerb::Due { timer, named } => due(alloc, asked, *named, timer),
+        LoadedByVerb::Cron { crontabs, .. } => cron(alloc, asked, crontabs),
     }
 }
 

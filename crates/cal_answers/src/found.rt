@@ -2,6 +2,7 @@
 
 use crate::local_clock::LocalClock;
 use crate::range_zones::RangeZones;
+use cal_crontabs::Crontabs;
 use cal_load::{Loaded, LoadedFiles};
 use cal_tasks::UnguardedTimer;
 use cal_unit_index::UnitIndex;
@@ -86,5 +87,10 @@ pub enum LoadedByVerb<'q> {
         /// The timer that is named or, if none is, the timer that started the service. `None` if there is neither.
         timer: Option<Loaded>,
         named: Option<&'q str>,
+    },
+    Cron {
+        crontabs: Crontabs,
+        /// The files and lines of crontabs that are named.
+        named: &'q [String],
     },
 }

@@ -40,7 +40,8 @@ pub(crate) fn index_for<T: Tree>(
 }
 
 /// Returns whether a question can be about units: it names no timers, so that it is about the units that other units
-/// start or about all units, or at least one name isn't a path. `next` is never about units, since it names expressions.
+/// start or about all units, or at least one name isn't a path. `next` is never about units, since it names expressions,
+/// and nor is `cron`.
 fn needs_units(question: &Question, about: Option<&str>) -> bool
     ensures { result ≡ needs_units question.entry.now (option_map (λ name. name.now) about.entry) }
 {
@@ -50,7 +51,7 @@ fn needs_units(question: &Question, about: Option<&str>) -> bool
         | Question::Lint { timers, .. }
         | Question::Between { timers, .. } => name_units(timers.as_slice()),
         Question::Same { one, other } => !is_path(one.as_str()) || !is_path(other.as_str()),
-        Question::Next { .. } => false,
+        Question::Next { .. } | Question::Cron { .. } => false,
         Question::Due { .. } => match about {
             Some(name) => !is_path(name),
             None => false,

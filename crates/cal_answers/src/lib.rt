@@ -6,6 +6,7 @@ mod arguments_to_bytes;
 mod between;
 mod candidates;
 mod compare;
+mod cron;
 mod due;
 mod fault;
 mod found;

@@ -3,11 +3,13 @@
 ghost use Rattle.std.specs.Prelude.{◌≡◌, ℕ, List, [], All, IfOk, map, option_map, string_bytes};
 ghost use Rattle.cal_machine.specs.rules.Machine.{Machine};
 ghost use Rattle.cal_unit_index.specs.rules.Index.{IsIndexOf};
+ghost use Rattle.cal_crontabs.specs.rules.Crontabs.{AreCrontabsOn};
 ghost use Rattle.cal_load.specs.rules.Expressions.{IsTimerOrReason};
 ghost use Rattle.cal_load.specs.rules.Loaded.{IsStoredOn, IsTimerOn};
 ghost use Rattle.cal_answers.specs.rules.Found.{AreAll, AreFilesOn, AreLoadedOn, AreMadeOf, AreTimersOn, HasAllFor, HasAllLinted, HasDue, HasUnits, IsDueOn, IsLoadedFor, IsSideOn, asks_all};
 
 use crate::found::LoadedByVerb;
+use cal_crontabs::{Crontabs, load_crontabs};
 use cal_load::{Loaded, LoadedFiles, TargetReason, load_expressions, load_files, load_timers};
 use cal_machine::Tree;
 use cal_timers_command::Question;
@@ -90,6 +92,10 @@ pub(crate) fn load_by_verb<'q, T: Tree>(
             timer: load_due(alloc, tree, index, about)?,
             named: timer.as_deref(),
         }),
+        Question::Cron { crontabs } => Ok(LoadedByVerb::Cron {
+            crontabs: load_named_crontabs(alloc, tree, crontabs.as_slice())?,
+            named: crontabs.as_slice(),
+        }),
     }
 }
 
@@ -127,6 +133,21 @@ fn load_named_expressions<T: Tree>(
     let texts = texts_of(alloc, expressions)?;
     let loaded = load_expressions(alloc, tree, texts.as_slice())?;
     Ok(loaded)
+}
+
+/// Loads the crontabs with these names or, if there are none, those of the machine.
+fn load_named_crontabs<T: Tree>(
+    alloc: Global,
+    tree: &mut T,
+    named: &[String],
+) -> Result<Crontabs, AllocError>
+    ensures known { IfOk result (λ crontabs. (machine : Machine) → T.shows tree.new machine
+        → AreCrontabsOn machine (map string_bytes named.now) crontabs) }
+    ensures grows { (machine : Machine) → T.shows tree.new machine → T.shows tree.old machine }
+{
+    let texts = texts_of(alloc, named)?;
+    let crontabs = load_crontabs(alloc, tree, texts.as_slice())?;
+    Ok(crontabs)
 }
 
 /// Loads the files with these names, and the timers that are made of them. If there are no names, loads the files and the

@@ -54,7 +54,8 @@ fn range_start(question: &Question) -> &str
         | Question::Lint { .. }
         | Question::Same { .. }
         | Question::Next { .. }
-        | Question::Due { .. } => "",
+        | Question::Due { .. }
+        | Question::Cron { .. } => "",
     }
 }
 
@@ -69,7 +70,8 @@ fn range_end(question: &Question) -> &str
         | Question::Lint { .. }
         | Question::Same { .. }
         | Question::Next { .. }
-        | Question::Due { .. } => "",
+        | Question::Due { .. }
+        | Question::Cron { .. } => "",
     }
 }
 

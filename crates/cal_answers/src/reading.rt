@@ -186,5 +186,5 @@ fn shown_option(options: &Options) -> Option<&str>
 fn shows_times(question: &Question) -> bool
     ensures { result ≡ shows_times question.entry.now }
 {
-    !matches!(question, Question::Lint { .. })
+    !matches!(question, Question::Lint { .. } | Question::Cron { .. })
 }

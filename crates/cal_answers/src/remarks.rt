@@ -61,7 +61,8 @@ fn unknown_name<'l>(loaded: &'l LoadedByVerb<'_>) -> Option<&'l str>
         | LoadedByVerb::Between { .. }
         | LoadedByVerb::Same { .. }
         | LoadedByVerb::Next { .. }
-        | LoadedByVerb::Due { .. } => None,
+        | LoadedByVerb::Due { .. }
+        | LoadedByVerb::Cron { .. } => None,
     }
 }
 
@@ -120,7 +121,10 @@ fn zone_note(loaded: &LoadedByVerb<'_>, local: &LocalClock) -> &'static str
 fn shows_no_times(loaded: &LoadedByVerb<'_>) -> bool
     ensures { result ≡ shows_no_times loaded.now }
 {
-    matches!(loaded, LoadedByVerb::Lint { .. })
+    matches!(
+        loaded,
+        LoadedByVerb::Lint { .. } | LoadedByVerb::Cron { .. }
+    )
 }
 
 fn is_assumed(local: &LocalClock) -> bool
@@ -167,7 +171,10 @@ fn named_in<'l>(loaded: &'l LoadedByVerb<'_>) -> &'l [String]
         | LoadedByVerb::Show { named, .. }
         | LoadedByVerb::Lint { named, .. }
         | LoadedByVerb::Between { named, .. } => named,
-        LoadedByVerb::Same { .. } | LoadedByVerb::Next { .. } | LoadedByVerb::Due { .. } => &[],
+        LoadedByVerb::Same { .. }
+        | LoadedByVerb::Next { .. }
+        | LoadedByVerb::Due { .. }
+        | LoadedByVerb::Cron { .. } => &[],
     }
 }
 
@@ -209,8 +216,8 @@ fn is_drop_in(name: &str) -> bool
     name.as_bytes().ends_with(b".conf")
 }
 
-/// Returns whether loading found nothing at all: no timer, no file, no masked unit and no error. For `same`, `next` and
-/// `due`, to which a folder can't be given, returns `false`.
+/// Returns whether loading found nothing at all: no timer, no file, no masked unit and no error. For `same`, `next`,
+/// `due` and `cron`, to which a folder can't be given, returns `false`.
 fn is_nothing(loaded: &LoadedByVerb<'_>) -> bool
     ensures { result ≡ is_nothing loaded.now }
 {
@@ -221,7 +228,10 @@ fn is_nothing(loaded: &LoadedByVerb<'_>) -> bool
         LoadedByVerb::Lint { files, timers, .. } => {
             files.files.is_empty() && files.faults.is_empty() && is_empty(timers)
         }
-        LoadedByVerb::Same { .. } | LoadedByVerb::Next { .. } | LoadedByVerb::Due { .. } => false,
+        LoadedByVerb::Same { .. }
+        | LoadedByVerb::Next { .. }
+        | LoadedByVerb::Due { .. }
+        | LoadedByVerb::Cron { .. } => false,
     }
 }
 

@@ -29,7 +29,8 @@ pub(crate) fn due_on<T: Tree>(
         | Question::Lint { .. }
         | Question::Between { .. }
         | Question::Same { .. }
-        | Question::Next { .. } => Ok(None),
+        | Question::Next { .. }
+        | Question::Cron { .. } => Ok(None),
     }
 }
 

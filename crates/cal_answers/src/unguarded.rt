@@ -43,7 +43,8 @@ pub(crate) fn unguarded_on<T: Tree>(
         LoadedByVerb::Between { .. }
         | LoadedByVerb::Same { .. }
         | LoadedByVerb::Next { .. }
-        | LoadedByVerb::Due { .. } => Ok(Vec::new(alloc)),
+        | LoadedByVerb::Due { .. }
+        | LoadedByVerb::Cron { .. } => Ok(Vec::new(alloc)),
     }
 }
 

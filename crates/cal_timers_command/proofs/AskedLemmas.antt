@@ -18,7 +18,7 @@ use Rattle.std.specs.List.{list_any}
 use Rattle.clap.specs.Words.{IsAmong, Kinds, Row, Text, all_of, fault_of, first_of, rows_of, subcommand_of}
 use Rattle.clap.specs.declared.error.kind.ErrorKind.{ErrorKind}
 use Rattle.clap.specs.declared.error.kind.ErrorKind.TheVariants.{OutOfMemory}
-use Rattle.cal_timers_command.specs.rules.Asked.{Command, Fault, IsCommandOf, IsFaultIn, IsFaultOf, IsRefusalOf, IsReportedOf, Options, Question, answer_in, between, command_for, command_found, count_value, due, faults_in, has_clash, help, is_of_help, lint, list, needed, next, no_memory, now_value, one_or_more, options_for, question_for, root_value, same, show, shown_fault, targets_in, text_value, usage, zone_value}
+use Rattle.cal_timers_command.specs.rules.Asked.{Command, Fault, IsCommandOf, IsFaultIn, IsFaultOf, IsRefusalOf, IsReportedOf, Options, Question, answer_in, between, command_for, command_found, count_value, cron, due, faults_in, has_clash, help, is_of_help, lint, list, needed, next, no_memory, now_value, one_or_more, options_for, question_for, root_value, same, show, shown_fault, targets_in, text_value, usage, zone_value}
 
 among : (p : ErrorKind → Bool) (kind : ErrorKind) (kinds : Kinds) → IsAmong kind kinds → p kind ≡ true → list_any p kinds ≡ true
 among p kind [] at holds = absurd at
@@ -94,6 +94,10 @@ pub lint_asked : (rows : List Row) (timers : List Text) (all strict : Bool) → 
     → strict ≡ is_set (codes "strict") rows → question_for verbs.Lint rows ≡ Ok (lint timers all strict)
 unfolding question_for
 lint_asked rows timers all strict aimed alls stricts = rw (aimed, alls, stricts) refl
+
+pub cron_asked : (rows : List Row) (crontabs : List Text) → crontabs ≡ targets_in rows → question_for verbs.Cron rows ≡ Ok (cron crontabs)
+unfolding question_for
+cron_asked rows crontabs named = rw named refl
 
 pub due_asked : (rows : List Row) (timer : Option Text) → timer ≡ first_of (codes "target") rows → question_for verbs.Due rows ≡ Ok (due timer)
 unfolding question_for

@@ -152,6 +152,21 @@ const ONE_TIMER: Argument = Argument {
     help: "Unit or timer file [default: the unit in $TRIGGER_UNIT]",
 };
 
+const CRONTABS: Argument = Argument {
+    name: TARGET,
+    form: ArgumentForm::Any,
+    value_name: "FILE|LINE",
+    help: "Crontab, or line of one [default: the crontabs of the machine]",
+};
+
+/// The option `--root` of `cron`, which looks for other files than the other verbs.
+const CRON_ROOT: Argument = Argument {
+    name: "root",
+    form: ArgumentForm::Value,
+    value_name: "DIR",
+    help: "Look for crontabs below this directory [default: /]",
+};
+
 const FROM: Argument = Argument {
     name: FIRST,
     form: ArgumentForm::One,
@@ -196,6 +211,8 @@ const NEXT_ARGUMENTS: [Argument; 8] = [COUNT, ZONE, UTC, IN, NOW, ROOT, JSON, EX
 
 const DUE_ARGUMENTS: [Argument; 8] = [ZONE, UTC, IN, NOW, ROOT, USER, JSON, ONE_TIMER];
 
+const CRON_ARGUMENTS: [Argument; 3] = [CRON_ROOT, JSON, CRONTABS];
+
 /// Returns whether the argument is an option whose value is the next argument.
 pub(crate) fn needs_value(argument: &str) -> bool
     ensures { result ≡ needs_value argument.now }
@@ -218,5 +235,6 @@ pub(crate) fn arguments_of(verb: Verb) -> &'static [Argument]
         Verb::Same => &SAME_ARGUMENTS,
         Verb::Next => &NEXT_ARGUMENTS,
         Verb::Due => &DUE_ARGUMENTS,
+        Verb::Cron => &CRON_ARGUMENTS,
     }
 }

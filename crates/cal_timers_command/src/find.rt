@@ -31,8 +31,9 @@ impl Command {
     /// - `same`: two units, files or expressions.
     /// - `next`: one or more expressions.
     /// - `due`: at most one unit or file.
+    /// - `cron`: any number of files and lines of crontabs.
     ///
-    /// The options are:
+    /// The options are, of which `cron` has only `--root` and `--json`:
     ///
     /// - `--count=N` or `-n N`, for `show` and `next`: a number from 1 to 1,000,000, in digits only.
     /// - `--zone=ZONE`: a zone, whose form isn't checked here. `--utc` is the same as `--zone=UTC`.

@@ -42,6 +42,10 @@ pub(crate) fn help_of(verb: Verb) -> VerbHelp {
             about: "Check whether the run that starts now is due, for ExecCondition=",
             notes: DUE,
         },
+        Verb::Cron => VerbHelp {
+            about: "Translate the entries of crontabs to timer settings",
+            notes: CRON,
+        },
     }
 }
 
@@ -73,3 +77,6 @@ const NEXT: &str =
 
 const DUE: &str =
     "For a service whose timer has exceptions, write in its file, with the path of{n}this program:{n}  [Service]{n}  ExecCondition=/usr/bin/calendar-timers due{n}The last elapse of OnCalendar=, at or before the current time, decides: the run{n}is due if there is one, and no exception elapses then.{n}Without UNIT and FILE, the timer is the one in $TRIGGER_UNIT, which systemd sets{n}if a timer starts the service (systemd.exec(5)). If it isn't set, or doesn't{n}name a timer, the run is due.{n}{n}Examples:{n}  calendar-timers due{n}  calendar-timers due backup{n}  calendar-timers due --now=@1798162200 --json backup{n}{n}Exit status:{n}    0  the run is due{n}    1  it isn't due: an exception elapses too, or nothing has elapsed yet{n}  255  there was an error";
+
+const CRON: &str =
+    "Without arguments, the crontabs of the machine are read: /etc/crontab, those in{n}/etc/cron.d and, if they can be read, those in /var/spool/cron/crontabs. An{n}argument that begins with '@', or has a blank and doesn't begin with '/' or '.',{n}is a LINE of a crontab, and any other is a FILE. Only /etc/crontab and files in{n}/etc/cron.d name a user after the time. Commands are only shown.{n}{n}Examples:{n}  calendar-timers cron{n}  calendar-timers cron '0 9 * * 1-5' @daily{n}  calendar-timers cron --root=/mnt /etc/crontab{n}{n}Exit status:{n}  0  each entry was translated{n}  1  an entry is invalid, or a file or directory can't be read{n}  2  the command line or the root is invalid";

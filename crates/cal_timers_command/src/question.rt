@@ -57,6 +57,11 @@ pub enum Question {
     Due {
         timer: Option<String>,
     },
+    /// Which settings of timers the entries of crontabs stand for. `crontabs` are files, and lines of crontabs. If there
+    /// are none, the question is about the crontabs of the machine.
+    Cron {
+        crontabs: Vec<String>,
+    },
 }
 
 /// The options that most verbs share.
@@ -67,7 +72,7 @@ pub struct Options {
     /// set.
     pub zone: Option<String>,
     /// The value of `--in`: the zone in which times are shown. The value isn't empty, and its form isn't checked. If
-    /// the option isn't given, this is `None`. `lint` doesn't have this option.
+    /// the option isn't given, this is `None`. `lint` and `cron` don't have this option.
     pub shown_in: Option<String>,
     /// The value of `--now`: the present, in seconds of Unix time, from 0 to 7,258,211,998. If the option isn't given,
     /// this is `None`, which stands for the system's clock.
@@ -75,8 +80,8 @@ pub struct Options {
     /// The value of `--root`: a folder. If the option isn't given, this is an empty string, which stands for the root
     /// of the machine itself.
     pub root: String,
-    /// Whether `--user` is given, so that the units are those of the user instead of those of the system. `next`
-    /// doesn't have this option.
+    /// Whether `--user` is given, so that the units are those of the user instead of those of the system. `next` and
+    /// `cron` don't have this option.
     pub is_user: bool,
     /// Whether `--json` is given, so that the answer is printed as JSON.
     pub is_json: bool,

@@ -24,11 +24,13 @@ pub enum Verb {
     Next,
     /// Whether the run of a service that starts now is due.
     Due,
+    /// The entries of crontabs as settings of timers.
+    Cron,
 }
 
 impl Verb {
     /// All verbs, in the order in which the help lists them.
-    pub(crate) const ALL: [Verb; 7] = [
+    pub(crate) const ALL: [Verb; 8] = [
         Verb::List,
         Verb::Show,
         Verb::Lint,
@@ -36,6 +38,7 @@ impl Verb {
         Verb::Same,
         Verb::Next,
         Verb::Due,
+        Verb::Cron,
     ];
 
     /// Returns the name of the verb. The caller chooses the lifetime, since the prover can't shorten `'static`.
@@ -50,6 +53,7 @@ impl Verb {
             Verb::Same => "same",
             Verb::Next => "next",
             Verb::Due => "due",
+            Verb::Cron => "cron",
         }
     }
 

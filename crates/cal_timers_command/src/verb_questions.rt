@@ -2,7 +2,7 @@
 
 ghost use Rattle.std.specs.Prelude.{◌≡◌, ◌++◌, Ok, IfErr, IfOk, map, string_bytes};
 ghost use Rattle.clap.specs.Words.{first_of, found_of, rows_of};
-ghost use Rattle.cal_timers_command.specs.declared.verb.Verb.TheVariants.{List, Show, Lint, Between, Same, Next, Due};
+ghost use Rattle.cal_timers_command.specs.declared.verb.Verb.TheVariants.{List, Show, Lint, Between, Same, Next, Due, Cron};
 ghost use Rattle.cal_timers_command.specs.rules.Asked.{IsFaultIn, needed, one_or_more, question_for, shown_question, targets_in};
 ghost use Rattle.cal_timers_command.specs.rules.Questions.{HasText, IsUsageOf, no_question};
 ghost use Rattle.cal_timers_command.specs.rules.Texts.{texts_of};
@@ -37,6 +37,7 @@ pub(crate) fn question_of(
         Verb::Same => same_of(alloc, values),
         Verb::Next => next_of(alloc, values),
         Verb::Due => due_of(alloc, values),
+        Verb::Cron => cron_of(alloc, values),
     }
 }
 
@@ -116,6 +117,14 @@ fn due_of(alloc: Global, values: &ArgMatches<'_>) -> Result<Question, CommandFau
     Ok(Question::Due { timer })
 }
 
+fn cron_of(alloc: Global, values: &ArgMatches<'_>) -> Result<Question, CommandFault>
+    ensures question { IfOk result (λ question. question_for Cron (rows_of (found_of values.now)) ≡ Ok (shown_question question)) }
+    ensures fault { IfErr result (IsFaultIn (question_for Cron (rows_of (found_of values.now)))) }
+{
+    let crontabs = targets_of(alloc, values)?;
+    Ok(Question::Cron { crontabs })
+}
+
 /// Returns a copy of a required argument. Fails with [`no_question`] if it isn't given, which `clap` doesn't let happen.
 fn needed_text(alloc: Global, values: &ArgMatches<'_>, name: &str) -> Result<String, CommandFault>
     ensures text { IfOk result (λ text. needed (first_of name.now (rows_of (found_of values.now))) ≡ Ok (string_bytes text)) }
@@ -140,7 +149,7 @@ fn needed_targets(alloc: Global, values: &ArgMatches<'_>) -> Result<Vec<String>,
     Ok(targets)
 }
 
-/// Returns copies of the timers, or of the expressions of `next`.
+/// Returns copies of the timers, the expressions of `next` or the crontabs of `cron`.
 fn targets_of(alloc: Global, values: &ArgMatches<'_>) -> Result<Vec<String>, AllocError>
     ensures { IfOk result (λ targets. map string_bytes targets.items ≡ targets_in (rows_of (found_of values.now))) }
 {

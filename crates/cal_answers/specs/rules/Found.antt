@@ -10,6 +10,7 @@ use Rattle.cal_timers_command.specs.declared.question.Question.{Question}
 use Rattle.cal_timers_command.specs.declared.question.Question.TheVariants as questions
 use Rattle.cal_unit_index.specs.declared.index.UnitIndex.{UnitIndex}
 use Rattle.cal_unit_index.specs.rules.Index.{IsIndexOf}
+use Rattle.cal_crontabs.specs.rules.Crontabs.{AreCrontabsOn}
 use Rattle.cal_load.specs.declared.files.LoadedFiles.{LoadedFiles}
 use Rattle.cal_load.specs.declared.loaded.Loaded.{Loaded}
 use Rattle.cal_load.specs.rules.AllFiles.{AreTextsAt, all_paths, paths_by}
@@ -51,7 +52,7 @@ IsDueOn machine path None timer = timer ≡ None
 IsDueOn machine path (Some about) None = ⊥
 IsDueOn machine path (Some about) (Some timer) = AreTimersOn machine path timer
 
--- the timers and the files that were loaded are those of the machine; `about` is the timer that `due` is about
+-- the timers, the files and the crontabs that were loaded are those of the machine; `about` is the timer that `due` is about
 abbrev pub AreLoadedOn : Machine → List (List ℕ) → Option (List ℕ) → LoadedByVerb → Type 0
 AreLoadedOn machine path about (loads.List timers named is_all) = AreTimersOn machine path timers
 AreLoadedOn machine path about (loads.Show timers named count) = AreTimersOn machine path timers
@@ -62,6 +63,7 @@ AreLoadedOn machine path about (loads.Same first one second other) =
     IsSideOn machine path one.now first × IsSideOn machine path other.now second
 AreLoadedOn machine path about (loads.Next timers expressions count) = AreMadeOf machine (map string_bytes expressions.now) timers
 AreLoadedOn machine path about (loads.Due timer named) = IsDueOn machine path about timer
+AreLoadedOn machine path about (loads.Cron crontabs named) = AreCrontabsOn machine (map string_bytes named.now) crontabs
 
 -- what was loaded is for this question, and repeats what its verb needs to answer
 abbrev pub IsLoadedFor : Question → LoadedByVerb → Type 0
@@ -73,6 +75,7 @@ IsLoadedFor (questions.Between start end given all) (loads.Between timers named 
 IsLoadedFor (questions.Same a b) (loads.Same first one second other) = (one.now ≡ string_bytes a) × (other.now ≡ string_bytes b)
 IsLoadedFor (questions.Next given most) (loads.Next timers expressions count) = (expressions.now ≡ given.items) × (count ≡ most)
 IsLoadedFor (questions.Due given) (loads.Due timer named) = option_map (λ name. name.now) named ≡ option_map string_bytes given
+IsLoadedFor (questions.Cron given) (loads.Cron crontabs named) = named.now ≡ given.items
 IsLoadedFor _ _ = ⊥
 
 -- whether the question is about all units if it names no timers, and not only about those that other units start
@@ -84,6 +87,7 @@ asks_all (questions.Between start end given all) = all
 asks_all (questions.Same a b) = false
 asks_all (questions.Next given most) = false
 asks_all (questions.Due given) = false
+asks_all (questions.Cron given) = false
 
 -- whether one of these texts is not a path
 abbrev pub has_name : List (List ℕ) → Bool
@@ -93,8 +97,8 @@ has_name named = list_any (λ text. not (is_path text)) named
 abbrev pub name_units : List (List ℕ) → Bool
 name_units named = length named == 0 || has_name named
 
--- whether a question can be about units; this is never so for `next`, which names expressions, nor for `due` if it is
--- about no timer
+-- whether a question can be about units; this is never so for `next`, which names expressions, for `cron`, which names
+-- crontabs, nor for `due` if it is about no timer
 abbrev pub needs_units : Question → Option (List ℕ) → Bool
 needs_units (questions.List given all) about = name_units (map string_bytes given.items)
 needs_units (questions.Show given most) about = name_units (map string_bytes given.items)
@@ -103,6 +107,7 @@ needs_units (questions.Between start end given all) about = name_units (map stri
 needs_units (questions.Same a b) about = not (is_path (string_bytes a)) || not (is_path (string_bytes b))
 needs_units (questions.Next given most) about = false
 needs_units (questions.Due given) about = option_map_or (λ name. not (is_path name)) about false
+needs_units (questions.Cron given) about = false
 
 -- All units that are loaded if no target is given were looked for, and nothing else was loaded: the units that other
 -- units start or, if `is_all` is true, all units. In the second case, `timers.started` has the units that other units
@@ -152,6 +157,7 @@ AreAll Knows all about (loads.Same first one second other) = ⊤
 AreAll Knows all about (loads.Next timers expressions count) =
     IsTimerOrReason (λ machine. (path : List (List ℕ)) × Knows machine path) (map string_bytes expressions.now) timers
 AreAll Knows all about (loads.Due timer named) = HasDue Knows about timer
+AreAll Knows all about (loads.Cron crontabs named) = ⊤
 
 -- no timer is missing (`AreAll`) on this machine and search path
 abbrev pub AreAllOn : Machine → List (List ℕ) → Bool → Option (List ℕ) → LoadedByVerb → Type 0

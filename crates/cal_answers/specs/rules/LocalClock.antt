@@ -57,6 +57,7 @@ is_next (questions.Between start end given all) = false
 is_next (questions.Same a b) = false
 is_next (questions.Next given most) = true
 is_next (questions.Due given) = false
+is_next (questions.Cron given) = false
 
 -- whether the answers to a question have times
 abbrev pub shows_times : Question → Bool
@@ -67,6 +68,7 @@ shows_times (questions.Between start end given all) = true
 shows_times (questions.Same a b) = true
 shows_times (questions.Next given most) = true
 shows_times (questions.Due given) = true
+shows_times (questions.Cron given) = false
 
 -- the zone of expressions that name no zone: `--zone` if it is given, or else, for `next`, `TZ` if it is set, or else
 -- the machine's own zone
@@ -79,6 +81,6 @@ abbrev pub shown_option : Options → Option (List ℕ)
 shown_option options = option_or (option_map string_bytes options.shown_in) (option_map string_bytes options.zone)
 
 -- the zone in which times are shown: that of `--in` or `--zone`, or else that of `TZ`, or else the machine's own;
--- `lint` shows no times, so `TZ` is ignored for it
+-- `lint` and `cron` show no times, so `TZ` is ignored for them
 abbrev pub shown_zone_of : Machine → Command → MachineLocalZone
 shown_zone_of machine command = machine_local_zone machine (shown_option command.options) (shows_times command.question)

@@ -1,16 +1,24 @@
 -- What is printed, and the exit status: for each verb the text or the JSON document of a report, with its error lines.
 use Rattle.std.specs.Prelude.{◌≡◌, ◌==◌, ◌++◌, ◌&&◌, ◌||◌, ◌⊎◌, ℕ, ℤ, Bool, false, true, is_none, not, List, [], Option, None, Some, Result, Ok, Err, codes, if◌then◌else◌, int_lt, length, map, max, option_map, slice_get, string_bytes}
-use Rattle.std.specs.List.{AllZip}
+use Rattle.std.specs.List.{AllZip, flat_map}
 use Rattle.std.specs.Option.{option_or}
 use Rattle.std.specs.Str.{bytes_eq}
 use Rattle.cal_bytes.specs.rules.Trim.{trim_end_matches}
 use Rattle.cal_machine.specs.rules.Places.{is_slash}
 use Rattle.cal_machine.specs.rules.Seen.{Said}
+use Rattle.cal_cron.specs.declared.cron_fault.CronFault.{CronFault}
+use Rattle.cal_cron.specs.rules.CronMatch.{CronExprs}
+use Rattle.cal_crontabs.specs.declared.crontabs.Crontabs.{Crontabs}
+use Rattle.cal_crontabs.specs.rules.Crontabs.{shown_crontab}
+use Rattle.cal_crontabs.specs.rules.Document.{entries_document}
+use Rattle.cal_crontabs.specs.rules.Entries.{EntryView, ReadsTimes, entries_of}
+use Rattle.cal_crontabs.specs.rules.EntryText.{entries_text}
+use Rattle.cal_crontabs.specs.rules.ErrorLines.{error_lines_of}
 use Rattle.cal_load.specs.declared.files.LoadedFiles.{LoadedFiles}
 use Rattle.cal_load.specs.declared.loaded.Loaded.{Loaded}
 use Rattle.cal_load.specs.declared.loaded.LoadedTimer.{LoadedTimer}
 use Rattle.cal_load.specs.rules.AllTargets.{is_path}
-use Rattle.cal_load.specs.rules.Loaded.{expressions_in}
+use Rattle.cal_load.specs.rules.CalendarZones.{expressions_in}
 use Rattle.cal_stamp.specs.declared.fault.StampFault.{StampFault}
 use Rattle.cal_stamp.specs.rules.StampFault.{message_of}
 use Rattle.cal_tasks.specs.declared.due.DueRun.{DueRun}
@@ -43,11 +51,11 @@ use Rattle.cal_answers.specs.declared.found.Found as founds
 use Rattle.cal_answers.specs.declared.found.Known.{Known}
 use Rattle.cal_answers.specs.declared.found.LoadedByVerb.{LoadedByVerb}
 use Rattle.cal_answers.specs.declared.found.LoadedByVerb.TheVariants as loads
-use Rattle.cal_answers.specs.rules.ErrorText.{fault_lines, lines_of_both, lint_lines, loaded_lines, masked_lines}
+use Rattle.cal_answers.specs.rules.ErrorText.{fault_lines, lines_of_both, lint_lines, loaded_lines, masked_lines, unreadable_lines}
 use Rattle.cal_answers.specs.rules.Found.{IsFoundBy}
 use Rattle.cal_answers.specs.rules.LintOutput.{IsLintBy}
 use Rattle.cal_answers.specs.rules.LocalClock.{clock_zone}
-use Rattle.cal_answers.specs.rules.Printed.{IsStopped, Printed, status_by}
+use Rattle.cal_answers.specs.rules.Printed.{IsStopped, Printed, status_by, with_errors}
 use Rattle.cal_answers.specs.rules.Remarks.{with_common_lines}
 
 -- ## Verbs
@@ -246,6 +254,25 @@ abbrev pub IsDueAnswer : Asked → Option (List ℕ) → Option Loaded → Print
 IsDueAnswer asked named None printed = (printed.out ≡ due_output asked by_hand) × (printed.err ≡ []) × (printed.status ≡ 0)
 IsDueAnswer asked named (Some loaded) printed = IsDueUnless (folder_of named loaded) asked loaded printed
 
+abbrev pub cron_output : Asked → List EntryView → List ℕ
+cron_output asked entries = if asked.is_json then entries_document entries else entries_text entries
+
+-- The entries of crontabs, with the error lines about entries that aren't valid, and then about crontabs that can't be
+-- read. `read` reads the time fields.
+abbrev pub IsCronAnswerBy : (List ℕ → Result CronExprs CronFault) → Asked → Crontabs → Printed → Type 0
+IsCronAnswerBy read asked crontabs printed =
+    let invalid = flat_map (error_lines_of read) (map shown_crontab crontabs.crontabs.items) in
+    printed ≡ with_errors (unreadable_lines crontabs.faults.items) (record {
+      out = cron_output asked (flat_map (entries_of read) (map shown_crontab crontabs.crontabs.items));
+      err = invalid;
+      status = status_by invalid;
+    })
+
+-- the answer about crontabs, whose time fields are read as crontab(5) says
+abbrev pub IsCronAnswer : Asked → Crontabs → Printed → Type 0
+IsCronAnswer asked crontabs printed =
+    (read : (List ℕ → Result CronExprs CronFault)) × ReadsTimes read × IsCronAnswerBy read asked crontabs printed
+
 -- ## The answer
 
 abbrev pub IsListAnswer : {X : Type 0} → Asked → List X → Bool → Loaded → Printed → Type 0
@@ -271,6 +298,7 @@ IsVerbAnswer asked index (loads.Between timers named from to) printed = IsBetwee
 IsVerbAnswer asked index (loads.Same first one second other) printed = IsSameAnswer asked one.now other.now first second printed
 IsVerbAnswer asked index (loads.Next timers expressions count) printed = IsShowAnswer asked count timers printed
 IsVerbAnswer asked index (loads.Due timer named) printed = IsDueAnswer asked (option_map (λ name. name.now) named) timer printed
+IsVerbAnswer asked index (loads.Cron crontabs named) printed = IsCronAnswer asked crontabs printed
 
 -- What all verbs need to know (`asked`) agrees with the options, with what is known, and with the style of the output.
 pub record IsAskedBy (options : Options) (known : Known) (style : Style) (asked : Asked) : Type 0 where

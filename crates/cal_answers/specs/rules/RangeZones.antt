@@ -34,6 +34,7 @@ range_start (questions.Between start end given all) = string_bytes start
 range_start (questions.Same a b) = []
 range_start (questions.Next given most) = []
 range_start (questions.Due given) = []
+range_start (questions.Cron given) = []
 
 -- the text of the range's end; empty for other verbs than `between`
 abbrev pub range_end : Question → List ℕ
@@ -44,6 +45,7 @@ range_end (questions.Between start end given all) = string_bytes end
 range_end (questions.Same a b) = []
 range_end (questions.Next given most) = []
 range_end (questions.Due given) = []
+range_end (questions.Cron given) = []
 
 -- the zones that the start and the end of the range can name on this machine
 pub record AreRangeZones (machine : Machine) (question : Question) (zones : RangeZones) : Type 0 where

@@ -47,7 +47,7 @@ verb_hint loaded = hint_about (unknown_name loaded)
 abbrev pub is_empty : Loaded → Bool
 is_empty loaded = length loaded.timers.items == 0 && (length loaded.masked.items == 0 && length loaded.faults.items == 0)
 
--- whether loading found no timer, no file, no masked unit and no error; `same`, `next` and `due` take no folders
+-- whether loading found no timer, no file, no masked unit and no error; `same`, `next`, `due` and `cron` take no folders
 abbrev pub is_nothing : LoadedByVerb → Bool
 is_nothing (loads.List timers named is_all) = is_empty timers
 is_nothing (loads.Show timers named count) = is_empty timers
@@ -56,6 +56,7 @@ is_nothing (loads.Between timers named from to) = is_empty timers
 is_nothing (loads.Same first one second other) = false
 is_nothing (loads.Next timers expressions count) = false
 is_nothing (loads.Due timer named) = false
+is_nothing (loads.Cron crontabs named) = false
 
 -- the timers that were named for `list`, `show`, `lint` or `between`; none for other verbs
 abbrev pub named_in : LoadedByVerb → List (List ℕ)
@@ -66,6 +67,7 @@ named_in (loads.Between timers named from to) = map string_bytes named.now
 named_in (loads.Same first one second other) = []
 named_in (loads.Next timers expressions count) = []
 named_in (loads.Due timer named) = []
+named_in (loads.Cron crontabs named) = []
 
 abbrev pub is_drop_in : List ℕ → Bool
 is_drop_in name = ends_with nat_eq name (codes ".conf")
@@ -91,6 +93,7 @@ is_assumed _ = false
 
 abbrev pub shows_no_times : LoadedByVerb → Bool
 shows_no_times (loads.Lint files timers named is_strict) = true
+shows_no_times (loads.Cron crontabs named) = true
 shows_no_times _ = false
 
 -- for verbs that show times, the line which says that the local zone is UTC because /etc/localtime doesn't lead to a

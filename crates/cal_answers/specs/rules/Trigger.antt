@@ -28,5 +28,6 @@ due_on machine (questions.Lint given all strict) = None
 due_on machine (questions.Between start end given all) = None
 due_on machine (questions.Same a b) = None
 due_on machine (questions.Next given most) = None
+due_on machine (questions.Cron given) = None
 due_on machine (questions.Due None) = trigger_on machine
 due_on machine (questions.Due (Some given)) = Some (string_bytes given)

@@ -32,6 +32,7 @@ pub data Question : Type 0 where
   same : Text → Text → Question
   next : List Text → ℕ → Question
   due : Option Text → Question
+  cron : List Text → Question
 
 -- the options that most verbs share
 pub record Options : Type 0 where
@@ -62,6 +63,7 @@ shown_question (questions.Between from to timers is_all) =
 shown_question (questions.Same one other) = same (string_bytes one) (string_bytes other)
 shown_question (questions.Next expressions count) = next (map string_bytes expressions.items) count
 shown_question (questions.Due timer) = due (option_map string_bytes timer)
+shown_question (questions.Cron crontabs) = cron (map string_bytes crontabs.items)
 
 abbrev pub shown_options : declared_options.Options → Options
 shown_options options = record {
@@ -153,7 +155,7 @@ abbrev pub one_or_more : List Text → Result (List Text) Fault
 one_or_more [] = Err (usage no_question)
 one_or_more (text ∷ texts) = Ok (text ∷ texts)
 
--- the timers, or the expressions of `next`, in the order in which they are given
+-- the timers, the expressions of `next` or the crontabs of `cron`, in the order in which they are given
 abbrev pub targets_in : List Row → List Text
 targets_in rows = unwrap_or (all_of (codes "target") rows) []
 
@@ -178,6 +180,7 @@ question_for verbs.Next rows =
     then_with (count_value rows) (λ count.
     Ok (next expressions count)))
 question_for verbs.Due rows = Ok (due (first_of (codes "target") rows))
+question_for verbs.Cron rows = Ok (cron (targets_in rows))
 
 -- what a verb with these values asks, or the error of the first invalid value: those of the question come first
 unfoldable pub command_for : Verb → List Row → Result Command Fault

@@ -8,7 +8,7 @@ use Rattle.cal_timers_command.specs.declared.arguments.Argument.{Argument}
 use Rattle.cal_timers_command.specs.declared.arguments.ArgumentForm.{ArgumentForm}
 use Rattle.cal_timers_command.specs.declared.arguments.ArgumentForm.TheVariants.{Value, ShortValue, Flag, ShortFlag, One, AtMostOne, Any, AtLeastOne}
 use Rattle.cal_timers_command.specs.declared.verb.Verb.{Verb}
-use Rattle.cal_timers_command.specs.declared.verb.Verb.TheVariants.{List, Show, Lint, Between, Same, Next, Due}
+use Rattle.cal_timers_command.specs.declared.verb.Verb.TheVariants.{List, Show, Lint, Between, Same, Next, Due, Cron}
 use Rattle.cal_timers_command.specs.rules.Verbs.{all_verbs, verb_name}
 use Rattle.cal_timers_command.specs.rules.VerbFirst.{needs_value}
 
@@ -91,6 +91,7 @@ verb_rules Between = pair_rules ++ all_rule ∷ shared_rules ++ any_targets ∷ 
 verb_rules Same = pair_rules ++ shared_rules
 verb_rules Next = count_rule ∷ zone_rules ++ in_rule ∷ place_rules ++ json_rule ∷ some_targets ∷ []
 verb_rules Due = shared_rules ++ one_target ∷ []
+verb_rules Cron = value_rule (codes "root") None ∷ json_rule ∷ any_targets ∷ []
 
 abbrev pub has_value : Option ArgAction → Bool
 has_value (Some Set) = true

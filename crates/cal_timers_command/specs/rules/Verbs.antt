@@ -3,11 +3,11 @@ use Rattle.std.specs.Prelude.{ℕ, ◌==◌, Bool, List as ListOf, [], ◌∷◌
 use Rattle.std.specs.Str.{bytes_eq}
 use Rattle.strsim.specs.Edits.{osa_table}
 use Rattle.cal_timers_command.specs.declared.verb.Verb.{Verb}
-use Rattle.cal_timers_command.specs.declared.verb.Verb.TheVariants.{List, Show, Lint, Between, Same, Next, Due}
+use Rattle.cal_timers_command.specs.declared.verb.Verb.TheVariants.{List, Show, Lint, Between, Same, Next, Due, Cron}
 
 -- the verbs, in the order in which the help lists them
 abbrev pub all_verbs : ListOf Verb
-all_verbs = List ∷ Show ∷ Lint ∷ Between ∷ Same ∷ Next ∷ Due ∷ []
+all_verbs = List ∷ Show ∷ Lint ∷ Between ∷ Same ∷ Next ∷ Due ∷ Cron ∷ []
 
 -- the name of a verb, as it is written in the arguments
 abbrev pub verb_name : Verb → ListOf ℕ
@@ -18,6 +18,7 @@ verb_name Between = codes "between"
 verb_name Same = codes "same"
 verb_name Next = codes "next"
 verb_name Due = codes "due"
+verb_name Cron = codes "cron"
 
 -- the verb with this name, or None if there is no such verb
 abbrev pub verb_named : ListOf ℕ → Option Verb
