@@ -10,8 +10,8 @@ use crate::index::with_unreadable;
 use cal_crontabs::{CronEntry, Crontabs, cron_report, entries_json, entries_text, times_are_read};
 use std::alloc::{AllocError, Global};
 
-/// Returns the entries of the crontabs, with an error line for each entry that isn't valid, and for each crontab that
-/// can't be read.
+/// Returns the entries of the crontabs, with an error line for each invalid entry, and for each file or folder that can't
+/// be read.
 pub(crate) fn cron(
     alloc: Global,
     asked: Asked<'_>,

@@ -28,7 +28,7 @@ pub struct Known<'q> {
     pub shown: LocalClock,
     /// The zones that the start and the end of a range can name.
     pub range: RangeZones,
-    /// The index of the search path of units, or of no folder if no unit is needed.
+    /// The index of the units' search path, or an empty index if no unit is needed.
     pub index: UnitIndex,
     /// What was loaded for the question.
     pub loaded: LoadedByVerb<'q>,
@@ -36,8 +36,8 @@ pub struct Known<'q> {
     pub unguarded: Vec<UnguardedTimer>,
 }
 
-/// What was loaded for a question, with what else its verb needs of the question to answer it. `named` are the units,
-/// files and folders that the question names.
+/// What was loaded for a question, with the parts of the question that the answer needs. `named` are the units, files and
+/// folders that the question names.
 #[derive(Drop)]
 pub enum LoadedByVerb<'q> {
     List {
@@ -71,10 +71,10 @@ pub enum LoadedByVerb<'q> {
     },
     Same {
         first: Loaded,
-        /// What `first` was loaded for.
+        /// The argument for which `first` was loaded.
         one: &'q str,
         second: Loaded,
-        /// What `second` was loaded for.
+        /// The argument for which `second` was loaded.
         other: &'q str,
     },
     Next {

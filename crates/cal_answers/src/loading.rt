@@ -119,7 +119,7 @@ fn load_named<T: Tree>(
     Ok(loaded)
 }
 
-/// Loads the timers made of these expressions, each of one.
+/// Loads one timer that has all these expressions.
 fn load_named_expressions<T: Tree>(
     alloc: Global,
     tree: &mut T,
@@ -135,7 +135,7 @@ fn load_named_expressions<T: Tree>(
     Ok(loaded)
 }
 
-/// Loads the crontabs with these names or, if there are none, those of the machine.
+/// Loads the crontabs that these files and lines stand for or, if `named` is empty, those of the machine.
 fn load_named_crontabs<T: Tree>(
     alloc: Global,
     tree: &mut T,
@@ -150,8 +150,8 @@ fn load_named_crontabs<T: Tree>(
     Ok(crontabs)
 }
 
-/// Loads the files with these names, and the timers that are made of them. If there are no names, loads the files and the
-/// timers that other units start or, if `is_all` is `true`, all of them.
+/// Loads the named files, and the timers made of them. If `named` is empty, loads the timers that other units start or,
+/// if `is_all` is `true`, all timers, with their files.
 fn load_linted<T: Tree>(
     alloc: Global,
     tree: &mut T,

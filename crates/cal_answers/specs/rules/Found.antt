@@ -65,7 +65,7 @@ AreLoadedOn machine path about (loads.Next timers expressions count) = AreMadeOf
 AreLoadedOn machine path about (loads.Due timer named) = IsDueOn machine path about timer
 AreLoadedOn machine path about (loads.Cron crontabs named) = AreCrontabsOn machine (map string_bytes named.now) crontabs
 
--- what was loaded is for this question, and repeats what its verb needs to answer
+-- what was loaded belongs to this question, and repeats what the answer needs of it
 abbrev pub IsLoadedFor : Question → LoadedByVerb → Type 0
 IsLoadedFor (questions.List given all) (loads.List timers named is_all) = (named.now ≡ given.items) × (is_all ≡ all)
 IsLoadedFor (questions.Show given most) (loads.Show timers named count) = (named.now ≡ given.items) × (count ≡ most)
@@ -109,7 +109,7 @@ needs_units (questions.Next given most) about = false
 needs_units (questions.Due given) about = option_map_or (λ name. not (is_path name)) about false
 needs_units (questions.Cron given) about = false
 
--- All units that are loaded if no target is given were looked for, and nothing else was loaded: the units that other
+-- The units that a question without targets stands for were looked for, and nothing else was loaded: the units that other
 -- units start or, if `is_all` is true, all units. In the second case, `timers.started` has the units that other units
 -- start.
 abbrev pub HasUnits : (Machine → List (List ℕ) → Type 0) → Bool → Loaded → Type 0
@@ -123,7 +123,7 @@ abbrev pub HasAllFor : (Machine → List (List ℕ) → Type 0) → Bool → Lis
 HasAllFor Knows is_all [] timers = HasUnits Knows is_all timers
 HasAllFor Knows is_all (one ∷ rest) timers = HasAllTargets Knows (one ∷ rest) timers
 
--- If there is no target, all units were looked for, as `HasUnits` says. If there are targets, this says nothing, since
+-- Without a target, the units that `HasUnits` describes were looked for. If there are targets, this says nothing, since
 -- targets that end in `.conf` aren't loaded as timers.
 abbrev pub HasAllLinted : (Machine → List (List ℕ) → Type 0) → Bool → List (List ℕ) → Loaded → Type 0
 HasAllLinted Knows is_all [] timers = HasUnits Knows is_all timers
@@ -145,7 +145,7 @@ HasDue Knows _ _ = ⊤
 
 -- On any machine and search path for which `Knows` holds, no timer is missing for `list`, `show`, `between` and `due`, and
 -- for `lint` if it names none; `lint` has all files; and `next` has the timer that its expressions make, or the reason
--- why they make none. For `same`, this says nothing.
+-- why they make none. For `same` and `cron`, this says nothing.
 abbrev pub AreAll : (Machine → List (List ℕ) → Type 0) → Bool → Option (List ℕ) → LoadedByVerb → Type 0
 AreAll Knows all about (loads.List timers named is_all) = HasAllFor Knows all (map string_bytes named.now) timers
 AreAll Knows all about (loads.Show timers named count) = HasAllFor Knows all (map string_bytes named.now) timers
@@ -175,8 +175,8 @@ IsPathOf machine is_user true path = machine_path machine is_user ≡ Some path
 IsPathOf machine is_user false path = (machine_path machine is_user ≡ Some path) ⊎ (path ≡ [])
 
 -- What is known for the question of a command is true on this machine: the local zone, the zone in which times are
--- shown, the zones that a range names, the index of the search path, and the timers and files that were loaded. No timer
--- is missing (`AreAllOn`), and `unguarded` has the timers whose exceptions systemd ignores.
+-- shown, the zones that a range names, the index of the search path, and the timers, files and crontabs that were
+-- loaded. No timer is missing (`AreAllOn`), and `unguarded` has the timers whose exceptions systemd ignores.
 pub record IsKnownOn (machine : Machine) (command : Command) (known : Known) : Type 0 where
   pub local : IsLocalZone machine (local_zone_of machine command) (clock_zone known.local)
   pub shown : IsLocalZone machine (shown_zone_of machine command) (clock_zone known.shown)
