@@ -36,6 +36,8 @@ impl CrontabFormat {
 pub struct CrontabLine<'t> {
     /// The number of the line, from 1.
     pub number: u32,
+    /// The number of the byte at which the text begins, from 1.
+    pub column: u32,
     /// The line without leading and trailing blanks.
     pub text: &'t str,
     pub content: LineContent<'t>,

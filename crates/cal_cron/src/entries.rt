@@ -17,7 +17,7 @@ use crate::{
     CronFault, CrontabEntry, CrontabFormat, CrontabLine, EntryFault, EntryTime, LineContent,
     LineFault, read_cron,
 };
-use cal_bytes::{trim_blanks, trim_blanks_end};
+use cal_bytes::{blanks_in_front, trim_blanks, trim_blanks_end};
 use std::alloc::{AllocError, Global};
 
 /// Reads the lines of a crontab (crontab(5)): its entries, the variables that it sets, and the errors in it, in the
@@ -61,6 +61,7 @@ fn push_line<'t>(
         Ok(Some(content)) => {
             found.push(CrontabLine {
                 number,
+                column: blanks_in_front(line.as_bytes()) as u32 + 1,
                 text: trim_blanks(line),
                 content,
             })?;

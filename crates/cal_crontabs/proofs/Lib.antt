@@ -1,2 +1,3 @@
 mod DocumentLemmas
 mod EntryLemmas
+mod FindingLemmas

@@ -4,3 +4,4 @@ pub mod Document
 pub mod Entries
 pub mod EntryText
 pub mod ErrorLines
+pub mod Findings

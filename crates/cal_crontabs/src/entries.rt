@@ -12,15 +12,12 @@ ghost use Rattle.cal_crontabs.specs.rules.ErrorLines.{error_lines_at, error_line
 
 use crate::crontabs::Crontab;
 use crate::error_lines::push_error_line;
+use crate::lines::lines_of;
 use crate::notes::{notes_of, zone_of_assignment};
 use cal_bytes::Port;
-use cal_cron::{CrontabEntry, CrontabFormat, CrontabLine, EntryTime, LineContent, read_crontab};
+use cal_cron::{CrontabEntry, CrontabFormat, CrontabLine, EntryTime, LineContent};
 use cal_spec::{Expr, write_expr};
 use std::alloc::{AllocError, Global};
-
-/// The maximum size of the text of a crontab, in bytes. A file has at most 1,048,576 bytes, and each byte that isn't
-/// UTF-8 is replaced by at most three bytes. No argument is longer on Linux (`MAX_ARG_STRLEN`, execve(2)).
-const MAX_TEXT: usize = 3 * 1_048_576;
 
 /// An entry of a crontab, and the settings of a timer that elapses when cron runs its command.
 #[derive(Drop)]
@@ -68,7 +65,7 @@ pub fn cron_report<'t>(alloc: Global, crontabs: &'t [Crontab]) -> Result<CronRep
 }
 
 impl<'t> CronReport<'t> {
-    /// Adds the entries of a crontab. No crontab has a text longer than [`MAX_TEXT`]; a longer text would add nothing.
+    /// Adds the entries of a crontab.
     #[tactic(auto, unfolding(crate::specs::rules::Entries::entries_of, crate::specs::rules::ErrorLines::error_lines_of))]
     fn add_crontab(&mut self, alloc: Global, crontab: &'t Crontab) -> Result<(), AllocError>
         ensures entries { OnOk result (map entry_seen self.new.entries.items
@@ -76,11 +73,7 @@ impl<'t> CronReport<'t> {
         ensures errors { OnOk result (string_bytes self.new.errors
             ≡ string_bytes self.old.errors ++ error_lines_of exprs_in (shown_crontab crontab.now)) }
     {
-        let text = crontab.text.as_str();
-        if text.len() > MAX_TEXT {
-            return Ok(());
-        }
-        let lines = read_crontab(alloc, crontab.format, text)?;
+        let lines = lines_of(alloc, crontab.format, crontab.text.as_str())?;
         self.add_lines(alloc, crontab, lines)
     }
 
@@ -120,6 +113,7 @@ impl<'t> CronReport<'t> {
     {
         let CrontabLine {
             number,
+            column: _,
             text,
             content,
         } = line;
@@ -207,7 +201,7 @@ fn calendar_setting(alloc: Global, expr: &Expr) -> Result<String, AllocError>
 }
 
 /// Returns an expression in its normal form (systemd.time(7), Calendar Events).
-fn normal_text(alloc: Global, expr: &Expr) -> Result<String, AllocError>
+pub(crate) fn normal_text(alloc: Global, expr: &Expr) -> Result<String, AllocError>
     ensures { IfOk result (λ text. string_bytes text ≡ expr_text expr.now) }
 {
     let mut out = Port::new(Vec::new(alloc));

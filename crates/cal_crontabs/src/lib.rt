@@ -6,12 +6,15 @@ mod document;
 mod entries;
 mod entry_text;
 mod error_lines;
+mod findings;
 mod folders;
 mod laws;
+mod lines;
 mod notes;
 
 pub use crontabs::{Crontab, Crontabs, load_crontabs};
 pub use document::entries_json;
 pub use entries::{CronEntry, CronReport, cron_report};
 pub use entry_text::entries_text;
-pub use laws::times_are_read;
+pub use findings::{CronFinding, CronFindingKind, cron_findings};
+pub use laws::{times_are_read, unused_entries_are_found};

@@ -1,8 +1,9 @@
-//! Crontabs: the expressions of time fields, or the error in them, and the command of an entry with its input. The
-//! expected texts are worked out by hand from crontab(5) and systemd.time(7).
+//! Crontabs: the expressions of time fields, or the error in them, the command of an entry with its input, and what
+//! is found in entries. The expected texts are worked out by hand from crontab(5) and systemd.time(7).
 
 use cal_bytes::Port;
 use cal_cron::{CronFault, CrontabFormat, LineContent, fault_start, read_cron, read_crontab};
+use cal_crontabs::{CronFinding, Crontab, cron_findings};
 use cal_library_tests::shared::ensure;
 use cal_lint::open_step_flaw;
 use cal_spec::{Expr, write_expr};
@@ -158,6 +159,61 @@ fn commands(rt: HostRuntime) -> Result<(), Fail> {
                 _ => return Err(text.into()),
             }
         }
+    }
+    Ok(())
+}
+
+/// Lines of a crontab, each with the column, the severity and the message of each finding.
+static FINDINGS: [(&str, &str); 9] = [
+    ("0 0 31 2 * run", "1: warning: the entry never runs\n"),
+    ("  0 0 30 2 */2 run", "3: warning: the entry never runs\n"),
+    ("0 0 29 2 */7 run", ""),
+    (
+        "0 0 1 * 1 run",
+        "1: warning: the entry runs on days that match the day of the month, and on days that match the weekday\n",
+    ),
+    (
+        "0 0 31 2 7 run",
+        "1: warning: the entry runs on days that match the day of the month, and on days that match the weekday\n",
+    ),
+    ("0 25 * * * run", "3: error: hour: value out of range\n"),
+    ("@daily", "7: error: expected a command\n"),
+    ("@reboot run", ""),
+    ("MAILTO=root", ""),
+];
+
+fn push_finding(out: &mut String, finding: &CronFinding<'_>) -> Result<(), Fail> {
+    let column = finding.column;
+    let severity = if finding.kind.is_error() {
+        "error"
+    } else {
+        "warning"
+    };
+    write!(out, "{column}: {severity}: ")?;
+    finding.kind.push_words(out)?;
+    out.push('\n')?;
+    Ok(())
+}
+
+fn findings_in(alloc: Global, text: &str) -> Result<String, Fail> {
+    let mut crontabs = Vec::new(alloc);
+    crontabs.push(Crontab {
+        name: String::from_str(alloc, "mine")?,
+        format: CrontabFormat::User,
+        text: String::from_str(alloc, text)?,
+    })?;
+    let mut out = String::new(alloc);
+    for finding in &cron_findings(alloc, crontabs.as_slice())? {
+        push_finding(&mut out, finding)?;
+    }
+    Ok(out)
+}
+
+#[test]
+fn findings(rt: HostRuntime) -> Result<(), Fail> {
+    for (text, expected) in FINDINGS {
+        let found = findings_in(rt.alloc(), text)?;
+        ensure(found.as_str() == expected, text)?;
     }
     Ok(())
 }

@@ -45,4 +45,4 @@ content_shown (line_content.Entry e) = Runs (entry_shown e)
 content_shown (line_content.Invalid f) = Invalid (fault_shown f)
 
 abbrev pub line_shown : CrontabLine → Line
-line_shown l = record { number = l.number; text = l.text.now; content = content_shown l.content }
+line_shown l = record { number = l.number; column = l.column; text = l.text.now; content = content_shown l.content }

@@ -1,6 +1,6 @@
 -- The lines of a crontab: crontab(5), with the rules of Debian's cron.
 use Rattle.std.specs.Prelude.{ℕ, ◌+◌, ◌==◌, Bool, true, false, ◌&&◌, ◌||◌, not, nat_eq, nat_lt, codes, if◌then◌else◌, List, [], ◌∷◌, ◌++◌, length, take, drop, Option, None, Some, Result, Ok, Err}
-use Rattle.std.specs.List.{after_first, before_first, list_any, starts_with}
+use Rattle.std.specs.List.{after_first, before_first, list_any, prefix_len, starts_with}
 use Rattle.std.specs.Str.{bytes_eq}
 use Rattle.std.specs.Str.Lines.{lines}
 use Rattle.cal_bytes.specs.rules.Separators.{is_blank, is_equals}
@@ -167,15 +167,18 @@ unfoldable pub content_of : (List ℕ → Result CronExprs CronFault) → Cronta
 content_of read format line =
     if says_nothing (trim_matches is_blank line) then None else Some (content_by read format line (assignment_in line))
 
--- a line that says something: its number, its text without leading and trailing blanks, and what it says
+-- a line that says something: its number, the number of the byte at which its text begins, counted from 1, its text
+-- without leading and trailing blanks, and what it says
 pub record Line : Type 0 where
   pub number : ℕ
+  pub column : ℕ
   pub text : List ℕ
   pub content : Content
 
 abbrev pub line_by : ℕ → List ℕ → Option Content → List Line
 line_by number line None = []
-line_by number line (Some content) = record { number = number; text = trim_matches is_blank line; content = content } ∷ []
+line_by number line (Some content) =
+    record { number = number; column = prefix_len is_blank line + 1; text = trim_matches is_blank line; content = content } ∷ []
 
 unfoldable pub line_at : (List ℕ → Result CronExprs CronFault) → CrontabFormat → ℕ → List ℕ → List Line
 line_at read format number line = line_by number line (content_of read format line)

@@ -142,8 +142,10 @@ entries_in crontab lines = entries_below crontab None lines
 abbrev pub max_text : ℕ
 max_text = 3 * 1_048_576
 
+-- the lines of a crontab that say something; `read` reads time fields
+unfoldable pub lines_of : (List ℕ → Result CronExprs CronFault) → CrontabFormat → List ℕ → List Line
+lines_of read format text = if nat_lt max_text (length text) then [] else crontab_lines read format text
+
 -- the entries of a crontab, in the order of its lines; `read` reads time fields
 unfoldable pub entries_of : (List ℕ → Result CronExprs CronFault) → Crontab → List EntryView
-entries_of read crontab =
-    if nat_lt max_text (length crontab.text) then []
-    else entries_in crontab (crontab_lines read crontab.format crontab.text)
+entries_of read crontab = entries_in crontab (lines_of read crontab.format crontab.text)
