@@ -11,7 +11,7 @@ use Rattle.cal_unit_index.specs.rules.Index.{IsIndexOf}
 use Rattle.cal_load.specs.declared.files.LoadedFiles.{LoadedFiles}
 use Rattle.cal_load.specs.declared.loaded.Loaded.{Loaded}
 use Rattle.cal_load.specs.declared.target_fault.TargetReason.{TargetReason}
-use Rattle.cal_load.specs.declared.target_fault.TargetReason.TheVariants.{NotFound, Template, TooManyAliases, Path, Broken, NothingToDo, Expression, ExpressionZone}
+use Rattle.cal_load.specs.declared.target_fault.TargetReason.TheVariants.{NotFound, Template, TooManyAliases, Path, Broken, NothingToDo, Expression, CrontabEntry, ExpressionZone}
 use Rattle.cal_load.specs.rules.AllFiles.{AreTextsAt, all_paths, paths_by}
 use Rattle.cal_load.specs.rules.AllTargets.{HasAll, HasAllTargets, HasAllUnits, IsOutcome, Sought}
 use Rattle.cal_load.specs.rules.AllUnits.{shown_stems, started_if_all}
@@ -97,6 +97,7 @@ reason_at Shows Knows texts target (Path place why) shows is = is
 reason_at Shows Knows texts target (Broken place line) shows is = is
 reason_at Shows Knows texts target (NothingToDo own read) shows is = is
 reason_at Shows Knows texts target (Expression fault) shows is = is
+reason_at Shows Knows texts target (CrontabEntry fault) shows is = is
 reason_at Shows Knows texts target (ExpressionZone path reason) shows is =
     (is.0, is.1, λ machine knows. is.2 machine (shows machine knows))
 

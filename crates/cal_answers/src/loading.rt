@@ -6,10 +6,10 @@ ghost use Rattle.cal_unit_index.specs.rules.Index.{IsIndexOf};
 ghost use Rattle.cal_crontabs.specs.rules.Crontabs.{AreCrontabsOn};
 ghost use Rattle.cal_load.specs.rules.Expressions.{IsTimerOrReason};
 ghost use Rattle.cal_load.specs.rules.Loaded.{IsStoredOn, IsTimerOn};
-ghost use Rattle.cal_answers.specs.rules.Found.{AreAll, AreFilesOn, AreLoadedOn, AreMadeOf, AreTimersOn, HasAllFor, HasAllLinted, HasDue, HasUnits, IsDueOn, IsLoadedFor, IsSideOn, asks_all};
+ghost use Rattle.cal_answers.specs.rules.Found.{AreAll, AreFilesOn, AreLoadedOn, AreMadeOf, AreTimersOn, HasAllFor, HasAllLinted, HasDue, HasUnits, IsDueOn, IsLoadedFor, IsSideOn, asks_all, is_entry_reason, is_invalid_entry};
 
 use crate::found::LoadedByVerb;
-use cal_crontabs::{Crontabs, load_crontabs};
+use cal_crontabs::{Crontabs, is_path_start, load_crontabs};
 use cal_load::{Loaded, LoadedFiles, TargetReason, load_expressions, load_files, load_timers};
 use cal_machine::Tree;
 use cal_timers_command::Question;
@@ -223,8 +223,8 @@ fn load_sides<T: Tree>(
     Ok((first, second))
 }
 
-/// Loads a unit or a file. If neither exists, loads the target as an expression. If that fails too, returns the error
-/// about the unit or the file.
+/// Loads a unit or a file. If neither exists, loads the target as an expression or as an entry of a crontab. If that fails
+/// too, returns the error about the unit or the file, unless the target can only be an entry.
 fn load_side<T: Tree>(
     alloc: Global,
     tree: &mut T,
@@ -239,7 +239,7 @@ fn load_side<T: Tree>(
     match loaded.faults.first() {
         Some(fault) if matches!(fault.reason, TargetReason::NotFound) => {
             let expression = load_expressions(alloc, tree, &[target])?;
-            if expression.timers.is_empty() {
+            if expression.timers.is_empty() && !is_invalid_entry(target, &expression) {
                 Ok(loaded)
             } else {
                 Ok(expression)
@@ -247,6 +247,23 @@ fn load_side<T: Tree>(
         }
         _ => Ok(loaded),
     }
+}
+
+/// Returns whether a target was loaded as an entry of a crontab, and is invalid as one. A target that begins like a path is
+/// never an entry.
+fn is_invalid_entry(target: &str, loaded: &Loaded) -> bool
+    ensures { result ≡ is_invalid_entry target.now loaded.now }
+{
+    match loaded.faults.first() {
+        Some(fault) => is_entry_reason(&fault.reason) && !is_path_start(target.as_bytes()),
+        None => false,
+    }
+}
+
+fn is_entry_reason(reason: &TargetReason) -> bool
+    ensures { result ≡ is_entry_reason reason.now }
+{
+    matches!(reason, TargetReason::CrontabEntry(_))
 }
 
 /// Loads the timer that `due` is about, if there is one.

@@ -1,13 +1,14 @@
 //! Reading the lines of a crontab.
 
 ghost use Rattle.std.specs.Prelude.{◌≡◌, ◌+◌, ◌<◌, ◌^◌, ◌++◌, IfOk, OnOk, drop, length, map};
+ghost use Rattle.std.specs.List.{list_any};
 ghost use Rattle.std.specs.Option.{option_map};
 ghost use Rattle.cal_bytes.specs.rules.Separators.{is_blank};
 ghost use Rattle.cal_bytes.specs.rules.Trim.{trim_end_matches};
 ghost use Rattle.cal_cron.specs.computed.CrontabViews.{content_shown, job_shown, line_shown, time_shown};
 ghost use Rattle.cal_cron.specs.computed.Lines.{LineGivesUnlessNoMemory};
 ghost use Rattle.cal_cron.specs.computed.Translation.{exprs_in};
-ghost use Rattle.cal_cron.specs.rules.CrontabLines.{content_by, content_of, crontab_lines, entry_by, entry_for, entry_in, is_missing, lacks, line_at, line_by, time_of};
+ghost use Rattle.cal_cron.specs.rules.CrontabLines.{content_by, content_of, crontab_lines, entry_by, entry_for, entry_in, is_missing, lacks, is_line_feed, line_at, line_by, single_entry_time, time_of};
 
 use crate::columns::fault_start;
 use crate::line_texts::{
@@ -42,6 +43,25 @@ pub fn read_crontab<'t>(
         rest = after;
     }
     Ok(found)
+}
+
+/// Reads the time of an entry that is given by itself: five time fields or a word that begins with `@`. A command may
+/// follow. Fails with [`CronFault::NoMemory`] only if allocation fails, and with [`CronFault::FieldCount`] if the text
+/// has too few words for an entry, or several lines.
+#[tactic(auto, unfolding(crate::specs::rules::CrontabLines::single_entry_time))]
+pub fn read_entry_time(alloc: Global, text: &str) -> Result<EntryTime, CronFault>
+    ensures { LineGivesUnlessNoMemory time_shown result (single_entry_time exprs_in text.now) }
+{
+    if has_line_feed(text.as_bytes()) {
+        return Err(CronFault::FieldCount);
+    }
+    read_time(alloc, text_until(text, time_end(text.as_bytes())))
+}
+
+fn has_line_feed(text: &[u8]) -> bool
+    ensures { result ≡ list_any is_line_feed text.now }
+{
+    text.iter().any(|byte| *byte == b'\n')
 }
 
 /// Appends a line, unless it is blank or a comment.

@@ -7,6 +7,7 @@ mod cron_fault;
 mod cron_field;
 mod crontab;
 mod entries;
+mod expression_texts;
 mod field_fault;
 mod fields;
 pub mod grammar_laws;
@@ -28,7 +29,8 @@ pub use crontab::{
     Assignment, CrontabEntry, CrontabFormat, CrontabLine, EntryFault, EntryTime, LineContent,
     LineFault,
 };
-pub use entries::read_crontab;
+pub use entries::{read_crontab, read_entry_time};
+pub use expression_texts::normal_text;
 pub use field_fault::FieldFault;
 pub use fields::read_field;
 pub use items::CronRange;

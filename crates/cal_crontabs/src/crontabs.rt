@@ -193,7 +193,8 @@ fn begins_with_at(target: &[u8]) -> bool
     matches!(target, [b'@', ..])
 }
 
-fn is_path_start(target: &[u8]) -> bool
+/// Returns whether a target begins like a path that isn't a line of a crontab, whatever follows: with `/` or `.`.
+pub fn is_path_start(target: &[u8]) -> bool
     ensures { result ≡ is_path_start target.now }
 {
     matches!(target, [b'/' | b'.', ..])

@@ -5,7 +5,6 @@ ghost use Rattle.std.specs.List.{flat_map};
 ghost use Rattle.std.specs.Option.{option_copied, option_map};
 ghost use Rattle.cal_cron.specs.computed.CrontabViews.{content_shown, entry_shown, line_shown, time_shown};
 ghost use Rattle.cal_cron.specs.computed.Translation.{exprs_in};
-ghost use Rattle.cal_spec.specs.rules.ExprText.{expr_text};
 ghost use Rattle.cal_crontabs.specs.rules.Crontabs.{shown_crontab};
 ghost use Rattle.cal_crontabs.specs.rules.Entries.{calendar_setting, entries_at, entries_in, entries_of, entry_seen, entry_view, file_of, settings_of, zone_after};
 ghost use Rattle.cal_crontabs.specs.rules.ErrorLines.{error_lines_at, error_lines_in, error_lines_of};
@@ -14,9 +13,8 @@ use crate::crontabs::Crontab;
 use crate::error_lines::push_error_line;
 use crate::lines::lines_of;
 use crate::notes::{notes_of, zone_of_assignment};
-use cal_bytes::Port;
-use cal_cron::{CrontabEntry, CrontabFormat, CrontabLine, EntryTime, LineContent};
-use cal_spec::{Expr, write_expr};
+use cal_cron::{CrontabEntry, CrontabFormat, CrontabLine, EntryTime, LineContent, normal_text};
+use cal_spec::Expr;
 use std::alloc::{AllocError, Global};
 
 /// An entry of a crontab, and the settings of a timer that elapses when cron runs its command.
@@ -198,18 +196,4 @@ fn calendar_setting(alloc: Global, expr: &Expr) -> Result<String, AllocError>
     let normal = normal_text(alloc, expr)?;
     setting.push_str(normal.as_str())?;
     Ok(setting)
-}
-
-/// Returns an expression in its normal form (systemd.time(7), Calendar Events).
-pub(crate) fn normal_text(alloc: Global, expr: &Expr) -> Result<String, AllocError>
-    ensures { IfOk result (λ text. string_bytes text ≡ expr_text expr.now) }
-{
-    let mut out = Port::new(Vec::new(alloc));
-    if write_expr(&mut out, expr).is_err() {
-        return Err(AllocError);
-    }
-    match String::from_utf8(out.into_inner()) {
-        Ok(text) => Ok(text),
-        Err(_) => Err(AllocError),
-    }
 }

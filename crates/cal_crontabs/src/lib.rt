@@ -12,7 +12,7 @@ mod laws;
 mod lines;
 mod notes;
 
-pub use crontabs::{Crontab, Crontabs, load_crontabs};
+pub use crontabs::{Crontab, Crontabs, is_path_start, load_crontabs};
 pub use document::entries_json;
 pub use entries::{CronEntry, CronReport, cron_report};
 pub use entry_text::entries_text;

@@ -1,17 +1,16 @@
 -- Lemmas on timers that are made of calendar expressions, without files.
 use Rattle.std.proofs.Common.{◌≡◌, ◌+◌, ◌<◌, ◌∙◌, ◌||◌, ℕ, Bool, Bor, List, Option, [], ◌∷◌, ◌++◌, None, Some, All, Ok, Err, true, false, ap, cond, drop, get_or, inr, length, map, refl, string_bytes, subst, sym, take}
-use Rattle.std.proofs.lemmas.List.{drop_more, map-append, take-append-drop, take_more}
-use Rattle.std.proofs.lemmas.List.Elements.{All-head, All-tail}
+use Rattle.std.proofs.lemmas.List.{append-nil, drop_more, map-append, take-append-drop, take_more}
+use Rattle.std.proofs.lemmas.List.Concat.{flat_map-append}
+use Rattle.std.proofs.lemmas.List.Elements.{All-append, All-cons, All-head, All-nil, All-tail}
 use Rattle.std.proofs.lemmas.List.Folds.{find-append, list_any-append, list_any-from_Any}
 use Rattle.std.proofs.lemmas.Slice.Eq.{bytes_eq-Decides}
-use Rattle.std.specs.List.{find, list_any}
+use Rattle.std.specs.List.{find, flat_map, list_any}
 use Rattle.std.specs.Option.{option_or, option_to_list}
-use Rattle.std.specs.Prelude.{String, is_ok, not, option_copied, option_map}
+use Rattle.std.specs.Prelude.{Result, String, is_ok, not, option_copied, option_map}
 use Rattle.std.specs.Str.{bytes_eq}
 use Rattle.std.specs.declared.alloc.Global.{Global}
 use Rattle.cal_machine.specs.rules.Machine.{Machine}
-use Rattle.cal_spec.specs.computed.Expr.{expr_in}
-use Rattle.cal_spec.specs.declared.spec_fault.SpecFault.{SpecFault}
 use Rattle.cal_spec.specs.rules.Fields.{Fields}
 use Rattle.cal_spec.specs.rules.ZoneSuffix.{name_in}
 use Rattle.cal_timer.specs.declared.timer.TimerLine as declared_line
@@ -25,59 +24,85 @@ use Rattle.cal_machine.specs.rules.Prefix.{after_prefix}
 use Rattle.cal_load.specs.declared.fault.TargetLoadFault.{TargetLoadFault}
 use Rattle.cal_load.specs.declared.fault.TargetLoadFault as faults
 use Rattle.cal_load.specs.declared.loaded.Loaded.{Loaded}
-use Rattle.cal_load.specs.declared.target_fault.TargetReason.TheVariants.{Expression, ExpressionZone}
-use Rattle.cal_load.specs.rules.Expressions.{AreOf, HasOnlyFault, HasOnlyZoneFault, IsExpressionReason, IsParseError, IsTimerOrReason, IsUnusableZone, first_invalid, first_with_zone, names_zone}
+use Rattle.cal_load.specs.declared.target_fault.TargetReason.{TargetReason}
+use Rattle.cal_load.specs.declared.target_fault.TargetReason.TheVariants.{ExpressionZone}
+use Rattle.cal_load.specs.rules.Expressions.{AreAppended, AreOf, HasOnlyFault, HasOnlyZoneFault, IsExpressionReason, IsParseError, IsTimerOrReason, IsUnusableZone, NotEntry, NotExpression, Unread, Written, expressions_for, first_invalid, first_with_zone, names_zone, or_none, reason_of, written}
 use Rattle.cal_load.specs.rules.Loaded.{zone_names_in}
 use Rattle.cal_load.specs.rules.TextFaults.{IsZonesError}
 
--- ## The loop over the expressions
+-- ## The loop over the texts
 
--- if the lines so far are those of the first `i` expressions, and a step adds the line of the next expression, then the
--- lines are those of the first `i + 1` expressions
+found_one : (read : Result (List Written) Unread) (old new : List (TimerLine Fields)) → AreAppended read old new
+    → (map written new ≡ map written old ++ or_none read) × (is_ok read ≡ true)
+found_one (Ok found) old new h = (h, refl)
+found_one (Err why) old new h = absurd h
+
+-- if the lines are those of some texts, and a step adds the lines of one more text, then the lines are those of all
+-- these texts
+pub lines_of_more : (texts : List (List ℕ)) (text : List ℕ) (old new : List (TimerLine Fields)) → AreOf texts old
+    → AreAppended (expressions_for text) old new → AreOf (texts ++ text ∷ []) new
+lines_of_more texts text old new before step =
+    let found = found_one (expressions_for text) old new step in
+    let all : List ℕ → List Written = λ one. or_none (expressions_for one) in
+    let last : flat_map all (text ∷ []) ≡ or_none (expressions_for text) = append-nil (or_none (expressions_for text)) in
+    (
+        found.0 ∙ ap (λ front. front ++ or_none (expressions_for text)) before.0
+        ∙ ap (λ back. flat_map all texts ++ back) (sym last) ∙ sym (flat_map-append all texts (text ∷ [])),
+        All-append (λ one. is_ok (expressions_for one) ≡ true) texts (text ∷ []) before.1 (All-cons (λ one. is_ok (expressions_for one) ≡ true) text [] found.1 (All-nil (λ one. is_ok (expressions_for one) ≡ true)))
+    )
+
+-- the same for the first `i` texts and the next one
 pub lines_more : (texts : List (Bor (List ℕ))) (i : ℕ) (d : Bor (List ℕ)) (old new : List (TimerLine Fields)) → i < length texts
-    → AreOf (map (λ text. text.now) (take i texts)) old
-    → ((all : List (List ℕ)) → AreOf all old → AreOf (all ++ (get_or texts i d).now ∷ []) new)
+    → AreOf (map (λ text. text.now) (take i texts)) old → AreAppended (expressions_for (get_or texts i d).now) old new
     → AreOf (map (λ text. text.now) (take (i + 1) texts)) new
 lines_more texts i d old new h before step =
     let e : map (λ (text : Bor (List ℕ)). text.now) (take (i + 1) texts) ≡ map (λ (text : Bor (List ℕ)). text.now) (take i texts) ++ (get_or texts i d).now ∷ [] =
     ap (map (λ (text : Bor (List ℕ)). text.now)) (take_more texts i d h) ∙ map-append (λ (text : Bor (List ℕ)). text.now) (take i texts) (get_or texts i d ∷ []) in
     let P : List (List ℕ) → Type 0 = λ all. AreOf all new in
-    subst P (sym e) (step (map (λ (text : Bor (List ℕ)). text.now) (take i texts)) before)
+    subst P (sym e) (lines_of_more (map (λ (text : Bor (List ℕ)). text.now) (take i texts)) (get_or texts i d).now old new before step)
 
-none_invalid : (entries : List (TimerLine Fields)) → All (λ entry. expr_in entry.text ≡ Ok entry.expr) entries
-    → first_invalid (map (λ entry. entry.text) entries) ≡ None
+none_invalid : (texts : List (List ℕ)) → All (λ text. is_ok (expressions_for text) ≡ true) texts → first_invalid texts ≡ None
 none_invalid [] h = refl
-none_invalid (entry ∷ entries) h =
-    let valid : expr_in entry.text ≡ Ok entry.expr = All-head (λ entry. expr_in entry.text ≡ Ok entry.expr) entry entries h in
-    rw valid (none_invalid entries (All-tail (λ entry. expr_in entry.text ≡ Ok entry.expr) entry entries h))
+none_invalid (text ∷ texts) h =
+    rw (All-head (λ one. is_ok (expressions_for one) ≡ true) text texts h)
+    (none_invalid texts (All-tail (λ one. is_ok (expressions_for one) ≡ true) text texts h))
 
--- if an expression is invalid, and all expressions before it are valid, it is the first invalid one
-pub invalid_first : (texts : List (Bor (List ℕ))) (i : ℕ) (d : Bor (List ℕ)) (entries : List (TimerLine Fields)) (fault : SpecFault) → i < length texts
-    → AreOf (map (λ text. text.now) (take i texts)) entries → expr_in (get_or texts i d).now ≡ Err fault
+-- if a text doesn't stand for expressions, and all texts before it do, it is the first invalid one
+pub invalid_first : (texts : List (Bor (List ℕ))) (i : ℕ) (d : Bor (List ℕ)) (entries : List (TimerLine Fields)) (why : Unread) → i < length texts
+    → AreOf (map (λ text. text.now) (take i texts)) entries → expressions_for (get_or texts i d).now ≡ Err why
     → first_invalid (map (λ text. text.now) texts) ≡ Some (get_or texts i d).now
-invalid_first texts i d entries fault h before bad =
+invalid_first texts i d entries why h before bad =
     let now : Bor (List ℕ) → List ℕ = λ text. text.now in
-    let test : List ℕ → Bool = λ text. not (is_ok (expr_in text)) in
+    let test : List ℕ → Bool = λ text. not (is_ok (expressions_for text)) in
     let front = map now (take i texts) in
     let back = (get_or texts i d).now ∷ map now (drop (i + 1) texts) in
     let e : map now texts ≡ front ++ back =
     ap (map now) (sym (take-append-drop i texts)) ∙ map-append now (take i texts) (drop i texts) ∙ ap (λ xs. front ++ map now xs) (drop_more texts i d h) in
-    let none : find test front ≡ None = ap first_invalid (sym before.0) ∙ none_invalid entries before.1 in
+    let none : find test front ≡ None = none_invalid front before.1 in
     let here : find test back ≡ Some (get_or texts i d).now = rw bad refl in
     ap first_invalid e ∙ find-append test front back ∙ ap (λ r. option_or r (find test back)) none ∙ here
 
--- if the only error is about the first invalid expression, `IsTimerOrReason` holds
-pub invalid_only : (Shows : Machine → Type 0) (texts : List (List ℕ)) (target : List ℕ) (error : TargetLoadFault) (loaded : Loaded) → IsParseError target error
-    → ((fault : SpecFault) → expr_in target ≡ Err fault → first_invalid texts ≡ Some target) → HasOnlyFault target error loaded
+reason_given : (Shows : Machine → Type 0) (texts : List (List ℕ)) (target : List ℕ) (why : Unread) → first_invalid texts ≡ Some target
+    → expressions_for target ≡ Err why → IsExpressionReason Shows texts target (reason_of why)
+reason_given Shows texts target (NotExpression fault) first is = (first, is)
+reason_given Shows texts target (NotEntry fault) first is = (first, is)
+
+error_given : (read : Result (List Written) Unread) (error : TargetLoadFault) (reason : TargetReason) → IsParseError read error → error ≡ faults.TheVariants.Target reason
+    → (why : Unread) × (read ≡ Err why) × (reason_of why ≡ reason)
+error_given (Ok found) error reason wrong is = absurd (wrong (λ e. absurd (cc)))
+error_given (Err why) error reason wrong is =
+    let same : faults.TheVariants.Target (reason_of why) ≡ faults.TheVariants.Target reason = sym (wrong (λ e. absurd (cc))) ∙ is in
+    (why, refl, cc)
+
+-- if the only error is about the first invalid text, `IsTimerOrReason` holds
+pub invalid_only : (Shows : Machine → Type 0) (texts : List (List ℕ)) (target : List ℕ) (error : TargetLoadFault) (loaded : Loaded) → IsParseError (expressions_for target) error
+    → ((why : Unread) → expressions_for target ≡ Err why → first_invalid texts ≡ Some target) → HasOnlyFault target error loaded
     → IsTimerOrReason Shows texts loaded
 invalid_only Shows texts target error loaded wrong first single =
-    let is_error = single.is_error in
-    let found = wrong (λ e. absurd (cc)) in
-    let same : faults.TheVariants.Target (Expression found.0) ≡ faults.TheVariants.Target single.fault.reason = sym found.1 ∙ is_error in
-    let reason : Expression found.0 ≡ single.fault.reason = cc in
-    let is : IsExpressionReason Shows texts (string_bytes single.fault.target) (Expression found.0) =
-    subst (λ name. IsExpressionReason Shows texts name (Expression found.0)) (sym single.named) (first found.0 found.2, found.2) in
-    (single.masked, inr (single.timers, (single.fault, single.only, subst (IsExpressionReason Shows texts (string_bytes single.fault.target)) reason is)))
+    let found = error_given (expressions_for target) error single.fault.reason wrong single.is_error in
+    let is : IsExpressionReason Shows texts (string_bytes single.fault.target) (reason_of found.0) =
+    subst (λ name. IsExpressionReason Shows texts name (reason_of found.0)) (sym single.named) (reason_given Shows texts target found.0 (first found.0 found.1) found.1) in
+    (single.masked, inr (single.timers, (single.fault, single.only, subst (IsExpressionReason Shows texts (string_bytes single.fault.target)) found.2 is)))
 
 -- ## Zones
 

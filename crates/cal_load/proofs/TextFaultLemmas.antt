@@ -16,7 +16,7 @@ use Rattle.cal_load.specs.declared.readable.BrokenLine.{BrokenLine}
 use Rattle.cal_load.specs.declared.fault.TargetLoadFault.{TargetLoadFault}
 use Rattle.cal_load.specs.declared.fault.TargetLoadFault as faults
 use Rattle.cal_load.specs.declared.target_fault.TargetReason.{TargetReason}
-use Rattle.cal_load.specs.declared.target_fault.TargetReason.TheVariants.{NotFound, Template, TooManyAliases, Path, Broken, NothingToDo, Expression, ExpressionZone}
+use Rattle.cal_load.specs.declared.target_fault.TargetReason.TheVariants.{NotFound, Template, TooManyAliases, Path, Broken, NothingToDo, Expression, CrontabEntry, ExpressionZone}
 use Rattle.cal_load.specs.rules.AllUnits.{IsBrokenFault, IsPathFault}
 use Rattle.cal_load.specs.rules.Loaded.{broken_own}
 use Rattle.cal_load.specs.rules.Position.{total_lines}
@@ -47,6 +47,7 @@ read_reason machine name files (Path place why) h = h
 read_reason machine name files (Broken place line) h = h
 read_reason machine name files (NothingToDo own read) h = absurd h
 read_reason machine name files (Expression fault) h = h
+read_reason machine name files (CrontabEntry fault) h = h
 read_reason machine name files (ExpressionZone zone reason) h = absurd h
 
 -- an error that says why files can't be read also says why they don't make a timer

@@ -1,4 +1,4 @@
-//! Timers that are made of calendar expressions, without files.
+//! Timers that are made of calendar expressions, or of entries of crontabs, without files.
 
 ghost use Rattle.std.specs.Prelude.{◌≡◌, ◌∷◌, ◌++◌, [], ℕ, List, All, IfOk, OnOk, Some, map, string_bytes};
 ghost use Rattle.std.specs.Result.{IfErr};
@@ -6,7 +6,10 @@ ghost use Rattle.cal_timer.specs.rules.TimerView.{shown};
 ghost use Rattle.cal_machine.specs.rules.Machine.{Machine};
 ghost use Rattle.cal_zone_files.specs.rules.ZoneFiles.{zone_path};
 ghost use Rattle.cal_load.specs.rules.Loaded.{HasNames, zone_names_in};
-ghost use Rattle.cal_load.specs.rules.Expressions.{AreOf, HasOneTimer, HasOnlyFault, HasOnlyZoneFault, IsMadeOf, IsParseError, IsTimerOf, IsTimerOrReason, first_with_zone};
+ghost use Rattle.cal_cron.specs.computed.CrontabViews.{time_shown};
+ghost use Rattle.cal_cron.specs.computed.Translation.{exprs_in, shown_exprs};
+ghost use Rattle.cal_cron.specs.rules.CrontabLines.{single_entry_time};
+ghost use Rattle.cal_load.specs.rules.Expressions.{AreAppended, AreOf, HasOneTimer, HasOnlyFault, HasOnlyZoneFault, IsMadeOf, IsParseError, IsTimerOf, IsTimerOrReason, Written, expressions_for, expressions_of, first_with_zone, in_normal_form, read_as_entry, written};
 
 use crate::calendar::Calendar;
 use crate::fault::{TargetLoadFault, push_fault};
@@ -14,17 +17,19 @@ use crate::loaded::{Loaded, LoadedTimer};
 use crate::target_fault::TargetReason;
 use crate::timer_files::TimerFiles;
 use crate::zones::{first_with_zone, load_named_zones};
+use cal_cron::{CronExprs, CronFault, EntryTime, normal_text, read_entry_time};
 use cal_machine::Tree;
-use cal_spec::{SpecFault, read_expr};
+use cal_spec::{Expr, SpecFault, read_expr};
 use cal_timer::TimerLine;
 use cal_zone::ZoneTable;
 use cal_zone_files::{FileReason, ZonesFault};
 use std::alloc::{AllocError, Global};
 
-/// Returns the timer that has these calendar expressions and no exceptions (systemd.time(7), Calendar Events). If an
-/// expression is invalid, there is no timer, and [`Loaded::faults`] has the error of the first invalid expression. If
-/// all expressions are valid, but a zone can't be loaded, there is no timer either, and [`Loaded::faults`] has an error
-/// for the first expression that names this zone. Fails only if allocation fails.
+/// Returns the timer that has these calendar expressions and no exceptions (systemd.time(7), Calendar Events). A text that
+/// isn't an expression may be an entry of a crontab, with or without a command (crontab(5)): it stands for one or two
+/// expressions. If a text is neither, there is no timer, and [`Loaded::faults`] has the error of the first such text. If
+/// all texts are valid, but a zone can't be loaded, there is no timer either, and [`Loaded::faults`] has an error for the
+/// first expression that names this zone. Fails only if allocation fails.
 pub fn load_expressions<T: Tree>(
     alloc: Global,
     tree: &mut T,
@@ -38,7 +43,7 @@ pub fn load_expressions<T: Tree>(
 {
     let mut lines = Vec::new(alloc);
     for expression in expressions {
-        if let Err(fault) = push_expression(alloc, &mut lines, expression) {
+        if let Err(fault) = push_expressions(alloc, &mut lines, expression) {
             return only_fault(alloc, expression, fault);
         }
     }
@@ -54,22 +59,84 @@ fn only_fault(alloc: Global, target: &str, fault: TargetLoadFault) -> Result<Loa
     Ok(loaded)
 }
 
-/// Parses an expression and appends it as a line. Its line number is its position in the list, counted from 1.
-fn push_expression(
+/// Appends the expressions that a text stands for as lines. The line number of an expression is its position in the list,
+/// counted from 1.
+#[tactic(auto, unfolding(crate::specs::rules::Expressions::expressions_for))]
+fn push_expressions(
     alloc: Global,
     lines: &mut Vec<TimerLine>,
-    expression: &str,
+    text: &str,
 ) -> Result<(), TargetLoadFault>
-    ensures pushed { OnOk result ((texts : List (List ℕ)) → AreOf texts (map shown lines.old.items)
-        → AreOf (texts ++ expression.now ∷ []) (map shown lines.new.items)) }
-    ensures fault { IfErr result (IsParseError expression.now) }
+    ensures pushed { OnOk result (AreAppended (expressions_for text.now) (map shown lines.old.items) (map shown lines.new.items)) }
+    ensures fault { IfErr result (IsParseError (expressions_for text.now)) }
 {
-    let expr = match read_expr(alloc, expression) {
-        Ok(expr) => expr,
-        Err(SpecFault::NoMemory) => return Err(TargetLoadFault::NoMemory),
-        Err(fault) => return Err(TargetLoadFault::Target(TargetReason::Expression(fault))),
-    };
-    let text = String::from_str(alloc, expression)?;
+    match read_expr(alloc, text) {
+        Ok(expr) => {
+            let text = String::from_str(alloc, text)?;
+            push_line(lines, text, expr)?;
+            Ok(())
+        }
+        Err(SpecFault::NoMemory) => Err(TargetLoadFault::NoMemory),
+        Err(fault) => push_entry(alloc, lines, text, fault),
+    }
+}
+
+/// Appends the expressions of an entry of a crontab. `invalid` says why the text isn't an expression, which is the error
+/// if it isn't an entry either.
+fn push_entry(
+    alloc: Global,
+    lines: &mut Vec<TimerLine>,
+    text: &str,
+    invalid: SpecFault,
+) -> Result<(), TargetLoadFault>
+    ensures pushed { OnOk result (AreAppended (read_as_entry invalid (single_entry_time exprs_in text.now))
+        (map shown lines.old.items) (map shown lines.new.items)) }
+    ensures fault { IfErr result (IsParseError (read_as_entry invalid (single_entry_time exprs_in text.now))) }
+{
+    match read_entry_time(alloc, text) {
+        Ok(EntryTime::Times(exprs)) => {
+            push_times(alloc, lines, exprs)?;
+            Ok(())
+        }
+        Ok(EntryTime::Reboot) => Err(TargetLoadFault::Target(TargetReason::CrontabEntry(
+            CronFault::Reboot,
+        ))),
+        Err(CronFault::NoMemory) => Err(TargetLoadFault::NoMemory),
+        Err(CronFault::FieldCount) => {
+            Err(TargetLoadFault::Target(TargetReason::Expression(invalid)))
+        }
+        Err(fault) => Err(TargetLoadFault::Target(TargetReason::CrontabEntry(fault))),
+    }
+}
+
+fn push_times(
+    alloc: Global,
+    lines: &mut Vec<TimerLine>,
+    exprs: CronExprs,
+) -> Result<(), AllocError>
+    ensures { OnOk result (map written (map shown lines.new.items)
+        ≡ map written (map shown lines.old.items) ++ expressions_of (shown_exprs exprs)) }
+{
+    push_normal(alloc, lines, exprs.first)?;
+    match exprs.other {
+        Some(other) => push_normal(alloc, lines, other),
+        None => Ok(()),
+    }
+}
+
+/// Appends an expression with its normal form as its text.
+fn push_normal(alloc: Global, lines: &mut Vec<TimerLine>, expr: Expr) -> Result<(), AllocError>
+    ensures { OnOk result (map written (map shown lines.new.items)
+        ≡ map written (map shown lines.old.items) ++ in_normal_form expr ∷ []) }
+{
+    let text = normal_text(alloc, &expr)?;
+    push_line(lines, text, expr)
+}
+
+fn push_line(lines: &mut Vec<TimerLine>, text: String, expr: Expr) -> Result<(), AllocError>
+    ensures { OnOk result (map written (map shown lines.new.items)
+        ≡ map written (map shown lines.old.items) ++ record { text = string_bytes text; fields = expr } ∷ []) }
+{
     let number = u32::try_from(lines.len())
         .unwrap_or(u32::MAX)
         .saturating_add(1);

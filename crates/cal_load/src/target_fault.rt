@@ -5,6 +5,7 @@ ghost use Rattle.cal_load.specs.rules.TextFaults.{fails_to_load};
 
 use crate::readable::BrokenLine;
 use crate::timer_files::TimerFiles;
+use cal_cron::CronFault;
 use cal_spec::SpecFault;
 use cal_unit_index::Reason;
 use cal_zone_files::FileReason;
@@ -28,6 +29,9 @@ pub enum TargetReason {
     NothingToDo(String, TimerFiles),
     /// The expression, which was given instead of a timer, is invalid.
     Expression(SpecFault),
+    /// The entry of a crontab, which was given instead of a timer, is invalid. The error is [`CronFault::Reboot`] for
+    /// `@reboot`, which has no calendar time.
+    CrontabEntry(CronFault),
     /// The expression, which was given instead of a timer, names a zone whose file at this path can't be used, for
     /// this reason.
     ExpressionZone(String, FileReason),

@@ -4,7 +4,7 @@ ghost use Rattle.std.specs.Prelude.{◌≡◌, ◌++◌, IfOk, OnOk, map, string
 ghost use Rattle.cal_timers_report.specs.rules.BetweenText.{between_line, between_lines, instant_width};
 ghost use Rattle.cal_timers_report.specs.rules.Columns.{widest};
 ghost use Rattle.cal_timers_report.specs.rules.ReportView.{comparison_seen, elapse_seen, side_seen};
-ghost use Rattle.cal_timers_report.specs.rules.SameText.{only_line, same_lines, setting_line, setting_lines};
+ghost use Rattle.cal_timers_report.specs.rules.SameText.{only_line, reading_line, reading_lines, same_lines, setting_line, setting_lines};
 
 use crate::cells::{push_blanks, push_printable};
 use crate::report::{Comparison, Side, UnitElapse};
@@ -62,9 +62,10 @@ fn push_elapse(
     out.push('\n')
 }
 
-/// Returns a text that says how two timers differ. For each timer that elapses at an instant at which the other
-/// doesn't, there is a line with the first such instant. If there are no such instants, the first line is `same`. Then
-/// there is a line for each setting that only one of them has.
+/// Returns a text that says how two timers differ. First, there is a line for each expression as which an entry of a
+/// crontab was read. For each timer that elapses at an instant at which the other doesn't, there is then a line with the
+/// first such instant. If there are no such instants, there is the line `same`. Then there is a line for each setting that
+/// only one of them has.
 pub fn same_text(
     alloc: Global,
     zone: Zone<'_>,
@@ -74,6 +75,8 @@ pub fn same_text(
 {
     let mut out = String::new(alloc);
     let mut formatter = InstantFormatter::new(zone);
+    push_readings(&mut out, &found.one)?;
+    push_readings(&mut out, &found.other)?;
     if found.one.only.is_none() && found.other.only.is_none() {
         out.push_str("same\n")?;
     }
@@ -82,6 +85,25 @@ pub fn same_text(
     push_settings(&mut out, &found.one)?;
     push_settings(&mut out, &found.other)?;
     Ok(out)
+}
+
+/// Appends a line for each expression as which the timer's name was read.
+fn push_readings(out: &mut String, side: &Side<'_>) -> Result<(), AllocError>
+    ensures { OnOk result (string_bytes out.new ≡ string_bytes out.old ++ reading_lines (side_seen side.now)) }
+{
+    for expression in &side.read_as {
+        push_reading(out, side.unit, expression)?;
+    }
+    Ok(())
+}
+
+fn push_reading(out: &mut String, unit: &str, expression: &str) -> Result<(), AllocError>
+    ensures { OnOk result (string_bytes out.new ≡ string_bytes out.old ++ reading_line unit.now expression.now) }
+{
+    push_printable(out, unit)?;
+    out.push_str(": read as ")?;
+    out.push_str(expression)?;
+    out.push('\n')
 }
 
 /// Appends a line with the first instant at which only this timer elapses, if there is such an instant.

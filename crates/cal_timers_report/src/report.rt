@@ -86,11 +86,13 @@ pub struct Comparison<'a> {
     pub other: Side<'a>,
 }
 
-/// What only one of two timers has.
+/// One of two timers that are compared, and what only this timer has.
 #[derive(Drop)]
 pub struct Side<'a> {
     /// The name of this timer.
     pub unit: &'a str,
+    /// The expressions as which the name was read, in normal form, if it is an entry of a crontab. Otherwise empty.
+    pub read_as: Vec<&'a str>,
     /// The first instant at which this timer elapses and the other timer doesn't.
     pub only: Option<Instant>,
     /// The settings that this timer has and the other timer doesn't, each as `KEY=VALUE`.

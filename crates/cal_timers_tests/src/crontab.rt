@@ -1,8 +1,11 @@
-//! Crontabs: the expressions of time fields, or the error in them, the command of an entry with its input, and what
-//! is found in entries. The expected texts are worked out by hand from crontab(5) and systemd.time(7).
+//! Crontabs: the expressions of time fields, or the error in them, the command of an entry with its input, what is found in
+//! entries, and the times of single entries. The expected texts are worked out by hand from crontab(5) and systemd.time(7).
 
 use cal_bytes::Port;
-use cal_cron::{CronFault, CrontabFormat, LineContent, fault_start, read_cron, read_crontab};
+use cal_cron::{
+    CronFault, CrontabFormat, EntryTime, LineContent, fault_start, read_cron, read_crontab,
+    read_entry_time,
+};
 use cal_crontabs::{CronFinding, Crontab, cron_findings};
 use cal_library_tests::shared::ensure;
 use cal_lint::open_step_flaw;
@@ -213,6 +216,43 @@ fn findings_in(alloc: Global, text: &str) -> Result<String, Fail> {
 fn findings(rt: HostRuntime) -> Result<(), Fail> {
     for (text, expected) in FINDINGS {
         let found = findings_in(rt.alloc(), text)?;
+        ensure(found.as_str() == expected, text)?;
+    }
+    Ok(())
+}
+
+/// Texts, each with the expressions of its time as an entry of a crontab, or the error.
+static ENTRY_TIMES: [(&str, &str); 9] = [
+    ("30 2 * * 1-5", "Mon..Fri *-*-* 02:30:00; "),
+    ("  0 0 1 * 1 run", "*-*-01 00:00:00; Mon *-*-* 00:00:00; "),
+    ("@daily", "*-*-* 00:00:00; "),
+    ("@reboot run", "at boot"),
+    ("0 25 * * *", "hour: value out of range"),
+    ("@fortnightly", "unknown word after @"),
+    ("Mon 9:00", "expected five fields"),
+    ("", "expected five fields"),
+    ("0 1 * * * a\n0 2 * * * b", "expected five fields"),
+];
+
+fn entry_time(alloc: Global, text: &str) -> Result<String, Fail> {
+    let mut out = String::new(alloc);
+    match read_entry_time(alloc, text) {
+        Ok(EntryTime::Times(exprs)) => {
+            for text in &exprs.texts(alloc)? {
+                out.push_str(text.as_str())?;
+                out.push_str("; ")?;
+            }
+        }
+        Ok(EntryTime::Reboot) => out.push_str("at boot")?,
+        Err(fault) => fault.push_words(&mut out)?,
+    }
+    Ok(out)
+}
+
+#[test]
+fn entry_times(rt: HostRuntime) -> Result<(), Fail> {
+    for (text, expected) in ENTRY_TIMES {
+        let found = entry_time(rt.alloc(), text)?;
         ensure(found.as_str() == expected, text)?;
     }
     Ok(())

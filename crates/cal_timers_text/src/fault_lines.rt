@@ -2,11 +2,13 @@
 
 ghost use Rattle.std.specs.Prelude.{◌≡◌, ◌<◌, ◌^◌, ◌++◌, IfOk, OnOk, string_bytes};
 ghost use Rattle.std.specs.Option.{option_map};
+ghost use Rattle.cal_cron.specs.rules.CronMessages as cron_messages;
 ghost use Rattle.cal_spec.specs.rules.SpecFault.{message_of};
 ghost use Rattle.cal_timers_text.specs.rules.ErrorLines.{broken_line, content_line, fault_line, idle_line, ignored_line, not_found_words, origin_name, place_text, position_text, reason_words, subject_line, unread_words, unusable_zone_line, zones_line};
 ghost use Rattle.cal_timers_text.specs.rules.Messages.{abbreviation_hint, broken_drop_in_message, broken_file_message, broken_words, zone_message};
 ghost use Rattle.cal_zone_files.specs.declared.fault.FileReason.TheVariants.{NotFound};
 
+use cal_cron::CronFault;
 use cal_lint::looks_like_abbreviation;
 use cal_load::{
     BrokenLine, BrokenReason, IgnoredLine, LoadedTimer, TargetFault, TargetReason, TimerFiles,
@@ -65,8 +67,8 @@ pub fn unread_words(fault: &TargetFault) -> Option<(&str, &'static str)>
     }
 }
 
-/// Appends the error line about the contents of a timer's files, or about an expression. Appends nothing for other
-/// faults, which [`unread_words`] describes.
+/// Appends the error line about the contents of a timer's files, or about an expression or an entry of a crontab. Appends
+/// nothing for other faults, which [`unread_words`] describes.
 fn push_content_fault(out: &mut String, fault: &TargetFault) -> Result<(), AllocError>
     ensures { OnOk result (string_bytes out.new ≡ string_bytes out.old ++ content_line (string_bytes fault.now.target) fault.now.reason) }
 {
@@ -75,6 +77,7 @@ fn push_content_fault(out: &mut String, fault: &TargetFault) -> Result<(), Alloc
         TargetReason::Broken(path, line) => push_broken(out, path.as_str(), *line),
         TargetReason::NothingToDo(_, files) => push_idle(out, target, files),
         TargetReason::Expression(fault) => push_fault(out, target, fault.words()),
+        TargetReason::CrontabEntry(fault) => push_entry_fault(out, target, *fault),
         TargetReason::ExpressionZone(zone, reason) => {
             push_expression_zone(out, target, zone.as_str(), *reason)
         }
@@ -238,6 +241,14 @@ fn push_fault(out: &mut String, subject: &str, message: &str) -> Result<(), Allo
     push_printable(out, subject)?;
     out.push_str(": ")?;
     out.push_str(message)
+}
+
+fn push_entry_fault(out: &mut String, entry: &str, fault: CronFault) -> Result<(), AllocError>
+    ensures { OnOk result (string_bytes out.new ≡ string_bytes out.old ++ subject_line entry.now (cron_messages.message_of fault)) }
+{
+    push_printable(out, entry)?;
+    out.push_str(": ")?;
+    fault.push_words(out)
 }
 
 fn push_broken(out: &mut String, path: &str, line: BrokenLine) -> Result<(), AllocError>

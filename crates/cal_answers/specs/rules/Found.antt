@@ -1,6 +1,6 @@
 -- What `read_question` finds: all that the answer to a question depends on, or why the question can't be answered.
 -- `calendar-timers` calls it once per run.
-use Rattle.std.specs.Prelude.{◌≡◌, ◌⊎◌, ◌==◌, ◌||◌, ⊤, ℕ, ℤ, Bool, true, false, not, All, List, [], ◌∷◌, Option, None, Some, length, map, option_map, string_bytes}
+use Rattle.std.specs.Prelude.{◌≡◌, ◌⊎◌, ◌==◌, ◌&&◌, ◌||◌, ⊤, ℕ, ℤ, Bool, true, false, not, All, List, [], ◌∷◌, Option, None, Some, length, map, option_map, slice_get, string_bytes}
 use Rattle.std.specs.List.{flat_map, list_any}
 use Rattle.std.specs.Option.{option_map_or, option_or}
 use Rattle.cal_machine.specs.rules.Machine.{Machine}
@@ -10,9 +10,12 @@ use Rattle.cal_timers_command.specs.declared.question.Question.{Question}
 use Rattle.cal_timers_command.specs.declared.question.Question.TheVariants as questions
 use Rattle.cal_unit_index.specs.declared.index.UnitIndex.{UnitIndex}
 use Rattle.cal_unit_index.specs.rules.Index.{IsIndexOf}
-use Rattle.cal_crontabs.specs.rules.Crontabs.{AreCrontabsOn}
+use Rattle.cal_crontabs.specs.rules.Crontabs.{AreCrontabsOn, is_path_start}
 use Rattle.cal_load.specs.declared.files.LoadedFiles.{LoadedFiles}
 use Rattle.cal_load.specs.declared.loaded.Loaded.{Loaded}
+use Rattle.cal_load.specs.declared.target_fault.TargetFault.{TargetFault}
+use Rattle.cal_load.specs.declared.target_fault.TargetReason.{TargetReason}
+use Rattle.cal_load.specs.declared.target_fault.TargetReason.TheVariants as reasons
 use Rattle.cal_load.specs.rules.AllFiles.{AreTextsAt, all_paths, paths_by}
 use Rattle.cal_load.specs.rules.AllTargets.{HasAllTargets, HasAllUnits, is_path}
 use Rattle.cal_load.specs.rules.AllUnits.{shown_stems, started_if_all}
@@ -45,6 +48,18 @@ AreMadeOf machine texts loaded = All (IsMadeOf machine texts) loaded.timers.item
 -- what was loaded for one side of `same`: units or files of the machine, or the side as an expression
 abbrev pub IsSideOn : Machine → List (List ℕ) → List ℕ → Loaded → Type 0
 IsSideOn machine path side loaded = AreTimersOn machine path loaded ⊎ AreMadeOf machine (side ∷ []) loaded
+
+abbrev pub is_entry_reason : TargetReason → Bool
+is_entry_reason (reasons.CrontabEntry fault) = true
+is_entry_reason reason = false
+
+abbrev pub is_entry_fault : List ℕ → Option TargetFault → Bool
+is_entry_fault target None = false
+is_entry_fault target (Some fault) = is_entry_reason fault.reason && not (is_path_start target)
+
+-- whether a target was loaded as an entry of a crontab, and is invalid as one
+abbrev pub is_invalid_entry : List ℕ → Loaded → Bool
+is_invalid_entry target loaded = is_entry_fault target (slice_get loaded.faults.items 0)
 
 -- what was loaded for `due`: the timer that it is about, or None if it is about no timer
 abbrev pub IsDueOn : Machine → List (List ℕ) → Option (List ℕ) → Option Loaded → Type 0

@@ -1,9 +1,11 @@
 -- When cron runs a line: crontab(5).
-use Rattle.std.specs.Prelude.{ℕ, ◌≡◌, ◌*◌, ◌≤◌, ◌+◌, ◌-◌, ◌/◌, ◌%◌, ◌==◌, Bool, false, ◌&&◌, ◌||◌, nat_le, nat_lt, if◌then◌else◌, List, Option, None, Some}
+use Rattle.std.specs.Prelude.{ℕ, ◌≡◌, ◌*◌, ◌≤◌, ◌+◌, ◌-◌, ◌/◌, ◌%◌, ◌==◌, Bool, false, ◌&&◌, ◌||◌, nat_le, nat_lt, if◌then◌else◌, List, ◌∷◌, Option, None, Some, map}
 use Rattle.std.specs.List.{list_any}
+use Rattle.std.specs.Option.{option_to_list}
 use Rattle.jiff_core.specs.declared.civil.date.Date.{Date}
 use Rattle.jiff_core.specs.Date.{weekday_of}
 use Rattle.cal_civil.specs.rules.LocalSecond.{civil_date, hour_of, minute_of, second_of, seconds_in_all, seconds_per_day}
+use Rattle.cal_spec.specs.rules.ExprText.{expr_text}
 use Rattle.cal_spec.specs.rules.Fields.{Fields}
 use Rattle.cal_spec.specs.rules.Match.{matches}
 use Rattle.cal_spec.specs.rules.Members.{sets_of}
@@ -45,6 +47,10 @@ cron_matches s local =
 pub record CronExprs : Type 0 where
   pub first : Fields
   pub other : Option Fields
+
+-- the expressions of a line as texts, in normal form (systemd.time(7), Calendar Events)
+abbrev pub expression_texts : CronExprs → List (List ℕ)
+expression_texts exprs = expr_text exprs.first ∷ map expr_text (option_to_list exprs.other)
 
 abbrev pub other_matches : Option Fields → ℕ → Bool
 other_matches None local = false

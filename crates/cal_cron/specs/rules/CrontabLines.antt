@@ -9,7 +9,7 @@ use Rattle.cal_cron.specs.rules.CronLine.{begins_with_at}
 use Rattle.cal_cron.specs.rules.CronMatch.{CronExprs}
 use Rattle.cal_cron.specs.rules.CronMessages.{fault_start, fields_end, word_end, word_start}
 use Rattle.cal_cron.specs.declared.cron_fault.CronFault.{CronFault}
-use Rattle.cal_cron.specs.declared.cron_fault.CronFault.TheVariants.{Reboot}
+use Rattle.cal_cron.specs.declared.cron_fault.CronFault.TheVariants.{FieldCount, Reboot}
 use Rattle.cal_cron.specs.declared.cron_field.CronField.TheVariants.{Weekday}
 use Rattle.cal_cron.specs.declared.crontab.CrontabFormat.{CrontabFormat}
 use Rattle.cal_cron.specs.declared.crontab.CrontabFormat.TheVariants.{System, User, Argument}
@@ -135,6 +135,14 @@ time_of (Err fault) = Err fault
 
 abbrev pub time_text : List ℕ → List ℕ
 time_text line = take (time_end line) line
+
+abbrev pub is_line_feed : ℕ → Bool
+is_line_feed b = b == 10
+
+-- The time of an entry that is given by itself; `read` reads time fields. A text of several lines isn't an entry, and
+-- neither is a text with too few words.
+unfoldable pub single_entry_time : (List ℕ → Result CronExprs CronFault) → List ℕ → Result (Option CronExprs) CronFault
+single_entry_time read text = if list_any is_line_feed text then Err FieldCount else time_of (read (time_text text))
 
 -- ## An entry
 

@@ -161,6 +161,7 @@ is_absent_reason (Path place reason) = false
 is_absent_reason (target_reasons.TheVariants.Broken place line) = false
 is_absent_reason (target_reasons.TheVariants.NothingToDo own read) = false
 is_absent_reason (target_reasons.TheVariants.Expression fault) = false
+is_absent_reason (target_reasons.TheVariants.CrontabEntry fault) = false
 is_absent_reason (target_reasons.TheVariants.ExpressionZone zone reason) = false
 
 -- whether loading a unit failed because it has no file, for example because its file is a link to nothing

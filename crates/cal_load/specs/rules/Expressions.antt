@@ -1,11 +1,18 @@
--- Timers that are made of calendar expressions, without files: systemd.time(7), Calendar Events.
-use Rattle.std.specs.Prelude.{◌≡◌, ◌≢◌, ◌⊎◌, ℕ, Bool, List, [], ◌∷◌, All, Option, Some, Ok, Err, String, is_ok, length, map, not, option_map, string_bytes}
-use Rattle.std.specs.List.{find, list_any}
+-- Timers that are made of calendar expressions or entries of crontabs, without files: systemd.time(7), Calendar Events;
+-- crontab(5).
+use Rattle.std.specs.Prelude.{◌≡◌, ◌≢◌, ◌⊎◌, ◌++◌, ℕ, Bool, List, [], ◌∷◌, All, None, Option, Some, Result, Ok, Err, String, is_ok, length, map, not, option_map, string_bytes, true}
+use Rattle.std.specs.List.{find, flat_map, list_any}
 use Rattle.std.specs.Option.{option_to_list}
 use Rattle.std.specs.Str.{bytes_eq}
 use Rattle.std.specs.declared.alloc.Global.{Global}
+use Rattle.cal_cron.specs.computed.Translation.{exprs_in}
+use Rattle.cal_cron.specs.declared.cron_fault.CronFault.{CronFault}
+use Rattle.cal_cron.specs.declared.cron_fault.CronFault.TheVariants.{FieldCount, Reboot}
+use Rattle.cal_cron.specs.rules.CronMatch.{CronExprs}
+use Rattle.cal_cron.specs.rules.CrontabLines.{single_entry_time}
 use Rattle.cal_spec.specs.computed.Expr.{expr_in}
 use Rattle.cal_spec.specs.declared.spec_fault.SpecFault.{SpecFault}
+use Rattle.cal_spec.specs.rules.ExprText.{expr_text}
 use Rattle.cal_spec.specs.rules.Fields.{Fields}
 use Rattle.cal_spec.specs.rules.ZoneSuffix.{name_in}
 use Rattle.cal_timer.specs.rules.TimerEntries.{TimerLine}
@@ -21,14 +28,57 @@ use Rattle.cal_load.specs.declared.loaded.Loaded.{Loaded}
 use Rattle.cal_load.specs.declared.loaded.LoadedTimer.{LoadedTimer}
 use Rattle.cal_load.specs.declared.target_fault.TargetFault.{TargetFault}
 use Rattle.cal_load.specs.declared.target_fault.TargetReason.{TargetReason}
-use Rattle.cal_load.specs.declared.target_fault.TargetReason.TheVariants.{NotFound, Template, TooManyAliases, Path, Broken, NothingToDo, Expression, ExpressionZone}
+use Rattle.cal_load.specs.declared.target_fault.TargetReason.TheVariants.{NotFound, Template, TooManyAliases, Path, Broken, NothingToDo, Expression, CrontabEntry, ExpressionZone}
+
+-- ## What a text stands for
+
+-- an expression: its text and its fields
+pub record Written : Type 0 where
+  pub text : List ℕ
+  pub fields : Fields
+
+abbrev pub in_normal_form : Fields → Written
+in_normal_form fields = record { text = expr_text fields; fields = fields }
+
+-- the expressions of an entry
+abbrev pub expressions_of : CronExprs → List Written
+expressions_of exprs = in_normal_form exprs.first ∷ map in_normal_form (option_to_list exprs.other)
+
+-- why a text stands for no expressions: its error as an expression, or as an entry
+pub data Unread : Type 0 where
+  NotExpression : (fault : SpecFault) → Unread
+  NotEntry : (fault : CronFault) → Unread
+
+-- The expressions of an entry, or why a text that isn't an expression (`invalid`) isn't an entry with a time either. If
+-- it has too few words for an entry, the error is that of the expression.
+abbrev pub read_as_entry : SpecFault → Result (Option CronExprs) CronFault → Result (List Written) Unread
+read_as_entry invalid (Ok (Some exprs)) = Ok (expressions_of exprs)
+read_as_entry invalid (Ok None) = Err (NotEntry Reboot)
+read_as_entry invalid (Err FieldCount) = Err (NotExpression invalid)
+read_as_entry invalid (Err fault) = Err (NotEntry fault)
+
+abbrev pub read_unless_invalid : List ℕ → Result Fields SpecFault → Result (List Written) Unread
+read_unless_invalid text (Ok fields) = Ok (record { text = text; fields = fields } ∷ [])
+read_unless_invalid text (Err fault) = read_as_entry fault (single_entry_time exprs_in text)
+
+-- the expressions that a text stands for: itself or, if it isn't an expression, those of an entry of a crontab
+unfoldable pub expressions_for : List ℕ → Result (List Written) Unread
+expressions_for text = read_unless_invalid text (expr_in text)
 
 -- ## Timers
 
--- the entries have these texts, all of which are valid expressions
+abbrev pub written : TimerLine Fields → Written
+written entry = record { text = entry.text; fields = entry.expr }
+
+abbrev pub or_none : Result (List Written) Unread → List Written
+or_none (Ok found) = found
+or_none (Err why) = []
+
+-- each of these texts stands for expressions, and the entries are these expressions, in order
 abbrev pub AreOf : List (List ℕ) → List (TimerLine Fields) → Type 0
 AreOf texts entries =
-    (map (λ entry. entry.text) entries ≡ texts) × All (λ entry. expr_in entry.text ≡ Ok entry.expr) entries
+    (map written entries ≡ flat_map (λ text. or_none (expressions_for text)) texts)
+    × All (λ text. is_ok (expressions_for text) ≡ true) texts
 
 -- the timer has these entries as its expressions, no exceptions, this table of zones, and no lines that are ignored
 -- because an expression is invalid or because of their zone
@@ -46,9 +96,9 @@ IsMadeOf machine texts timer =
 
 -- ## Errors
 
--- the first of these texts that isn't a valid expression
+-- the first of these texts that doesn't stand for expressions
 abbrev pub first_invalid : List (List ℕ) → Option (List ℕ)
-first_invalid texts = find (λ text. not (is_ok (expr_in text))) texts
+first_invalid texts = find (λ text. not (is_ok (expressions_for text))) texts
 
 -- whether the entry names this zone
 abbrev pub names_zone : List ℕ → TimerLine Fields → Bool
@@ -67,8 +117,8 @@ pub record IsUnusableZone (machine : Machine) (entries : List (TimerLine Fields)
   pub is_first : first_with_zone zone entries ≡ Some target
 
 -- Why these texts don't make a timer: `target` is the first of them that is invalid, and `fault` is the error of
--- parsing it. Or all of them are valid, the zone file at `path` can't be used, and `target` is the first that names its
--- zone. `Shows` holds for the machines that agree with what the tree returned.
+-- parsing it as an expression or as an entry. Or all of them are valid, the zone file at `path` can't be used, and
+-- `target` is the first that names its zone. `Shows` holds for the machines that agree with what the tree returned.
 abbrev pub IsExpressionReason : (Machine → Type 0) → List (List ℕ) → List ℕ → TargetReason → Type 0
 IsExpressionReason Shows texts target NotFound = ⊥
 IsExpressionReason Shows texts target Template = ⊥
@@ -76,7 +126,10 @@ IsExpressionReason Shows texts target TooManyAliases = ⊥
 IsExpressionReason Shows texts target (Path place why) = ⊥
 IsExpressionReason Shows texts target (Broken place line) = ⊥
 IsExpressionReason Shows texts target (NothingToDo own read) = ⊥
-IsExpressionReason Shows texts target (Expression fault) = (first_invalid texts ≡ Some target) × (expr_in target ≡ Err fault)
+IsExpressionReason Shows texts target (Expression fault) =
+    (first_invalid texts ≡ Some target) × (expressions_for target ≡ Err (NotExpression fault))
+IsExpressionReason Shows texts target (CrontabEntry fault) =
+    (first_invalid texts ≡ Some target) × (expressions_for target ≡ Err (NotEntry fault))
 IsExpressionReason Shows texts target (ExpressionZone path reason) =
     (entries : List (TimerLine Fields)) × AreOf texts entries
     × ((machine : Machine) → Shows machine → IsUnusableZone machine entries target (string_bytes path) reason)
@@ -100,10 +153,19 @@ IsTimerOrReason Shows texts loaded = (loaded.masked.items ≡ []) × (HasOneTime
 
 -- ## Steps
 
--- unless memory ran out, the error says why this text can't be parsed
-abbrev pub IsParseError : List ℕ → TargetLoadFault → Type 0
-IsParseError text error =
-    error ≢ faults.TheVariants.NoMemory → (fault : SpecFault) × (error ≡ faults.TheVariants.Target (Expression fault)) × (expr_in text ≡ Err fault)
+abbrev pub reason_of : Unread → TargetReason
+reason_of (NotExpression fault) = Expression fault
+reason_of (NotEntry fault) = CrontabEntry fault
+
+-- unless memory ran out, the error is that of reading a text
+abbrev pub IsParseError : Result (List Written) Unread → TargetLoadFault → Type 0
+IsParseError (Ok found) error = error ≢ faults.TheVariants.NoMemory → ⊥
+IsParseError (Err why) error = error ≢ faults.TheVariants.NoMemory → error ≡ faults.TheVariants.Target (reason_of why)
+
+-- `new` is `old`, followed by the expressions that a text stands for
+abbrev pub AreAppended : Result (List Written) Unread → List (TimerLine Fields) → List (TimerLine Fields) → Type 0
+AreAppended (Ok found) old new = map written new ≡ map written old ++ found
+AreAppended (Err why) old new = ⊥
 
 -- nothing was loaded, and the only error is this one, which is about the target with this name
 pub record HasOnlyFault (target : List ℕ) (error : TargetLoadFault) (loaded : Loaded) : Type 0 where

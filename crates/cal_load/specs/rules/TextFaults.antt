@@ -13,7 +13,7 @@ use Rattle.cal_load.specs.declared.fault.TargetLoadFault.{TargetLoadFault}
 use Rattle.cal_load.specs.declared.fault.TargetLoadFault as faults
 use Rattle.cal_load.specs.declared.target_fault.TargetReason.{TargetReason}
 use Rattle.cal_load.specs.declared.timer_files.TimerFiles.{TimerFiles}
-use Rattle.cal_load.specs.declared.target_fault.TargetReason.TheVariants.{NotFound, Template, TooManyAliases, Path, Broken, NothingToDo, Expression, ExpressionZone}
+use Rattle.cal_load.specs.declared.target_fault.TargetReason.TheVariants.{NotFound, Template, TooManyAliases, Path, Broken, NothingToDo, Expression, CrontabEntry, ExpressionZone}
 use Rattle.cal_load.specs.rules.Loaded.{AreFilesOf, broken_own, expressions_of_files, timer_assignments, unclear_of_files}
 use Rattle.cal_load.specs.rules.Notes.{starts_unit}
 use Rattle.cal_load.specs.rules.Position.{total_lines}
@@ -45,6 +45,7 @@ IsReadReason files (Path place why) = HasTooLargeAt files (string_bytes place) �
 IsReadReason files (Broken place line) = IsBrokenAt files (string_bytes place) line
 IsReadReason files (NothingToDo own read) = ⊥
 IsReadReason files (Expression fault) = ⊥
+IsReadReason files (CrontabEntry fault) = ⊥
 IsReadReason files (ExpressionZone zone reason) = ⊥
 
 abbrev pub IsReadFault : List UnitText → TargetLoadFault → Type 0
@@ -89,6 +90,7 @@ IsTextReason machine name files (Path place why) = IsReadReason files (Path plac
 IsTextReason machine name files (Broken place line) = IsReadReason files (Broken place line)
 IsTextReason machine name files (NothingToDo own read) = (string_bytes own ≡ name) × HasNothingToDo machine name files read
 IsTextReason machine name files (Expression fault) = ⊥
+IsTextReason machine name files (CrontabEntry fault) = ⊥
 IsTextReason machine name files (ExpressionZone zone reason) = ⊥
 
 abbrev pub IsTextFault : Machine → List ℕ → List UnitText → TargetLoadFault → Type 0
@@ -104,4 +106,5 @@ fails_to_load (Path place why) = false
 fails_to_load (Broken place line) = true
 fails_to_load (NothingToDo own read) = true
 fails_to_load (Expression fault) = false
+fails_to_load (CrontabEntry fault) = false
 fails_to_load (ExpressionZone zone reason) = false

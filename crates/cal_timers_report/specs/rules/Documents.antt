@@ -63,6 +63,17 @@ setting_members unit setting = ((codes "of", string unit) ∷ (codes "setting", 
 abbrev pub setting_json : List ℕ → List ℕ → Json
 setting_json unit setting = object_of (setting_members unit setting)
 
+-- an expression as which the name of a timer was read
+abbrev pub reading_members : List ℕ → List ℕ → List (List ℕ × Json)
+reading_members unit expression = ((codes "of", string unit) ∷ (codes "expression", string expression) ∷ [])
+
+abbrev pub reading_json : List ℕ → List ℕ → Json
+reading_json unit expression = object_of (reading_members unit expression)
+
+-- the expressions as which the name of this timer was read
+abbrev pub readings_of : SideView → List Json
+readings_of side = map (reading_json side.unit) side.read_as
+
 -- the first instant at which only this timer elapses, if there is one
 abbrev pub only_of : Zone → SideView → List Json
 only_of zone side = map (only_json zone side.unit) (option_to_list side.only)
@@ -77,6 +88,7 @@ comparison_members zone found = (
     (codes "same", boolean (is_none found.one.only && is_none found.other.only))
     ∷ (codes "only", array_of (only_of zone found.one ++ only_of zone found.other))
     ∷ (codes "settings", array_of (settings_of found.one ++ settings_of found.other))
+    ∷ (codes "read_as", array_of (readings_of found.one ++ readings_of found.other))
     ∷ [])
 
 -- an object that says whether two timers elapse at the same instants, and what only one of them has

@@ -88,15 +88,18 @@ pub record ElapseView : Type 0 where
 abbrev pub elapse_seen : UnitElapse → ElapseView
 elapse_seen elapse = record { unit = elapse.unit.now; secs = elapse.instant.secs }
 
--- what only one of the two timers in the report of `same` has
+-- one of the two timers in the report of `same`: its name, the expressions as which the name was read if it is an entry
+-- of a crontab, and what only this timer has
 pub record SideView : Type 0 where
   pub unit : List ℕ
+  pub read_as : List (List ℕ)
   pub only : Option ℤ
   pub settings : List (List ℕ)
 
 abbrev pub side_seen : Side → SideView
 side_seen side = record {
   unit = side.unit.now;
+  read_as = map (λ expression. expression.now) side.read_as.items;
   only = option_map (λ instant. instant.secs) side.only;
   settings = map (λ setting. setting.now) side.settings.items;
 }

@@ -26,10 +26,19 @@ setting_line unit setting =
 abbrev pub setting_lines : SideView → List ℕ
 setting_lines side = flat_map (setting_line side.unit) side.settings
 
--- first the lines about elapses, or `same`, and then the lines about settings
+abbrev pub reading_line : List ℕ → List ℕ → List ℕ
+reading_line unit expression = printable_text unit ++ (codes ": read as " ++ (expression ++ codes "\n"))
+
+-- a line for each expression as which the name of this timer was read
+abbrev pub reading_lines : SideView → List ℕ
+reading_lines side = flat_map (reading_line side.unit) side.read_as
+
+-- first the lines about entries of crontabs, then those about elapses, or `same`, and then those about settings
 abbrev pub same_lines : Zone → ComparisonView → List ℕ
 same_lines zone found =
-    same_line found.one.only found.other.only
+    reading_lines found.one
+    ++ (reading_lines found.other
+    ++ (same_line found.one.only found.other.only
     ++ (only_line zone found.one.unit found.one.only
     ++ (only_line zone found.other.unit found.other.only
-    ++ (setting_lines found.one ++ setting_lines found.other)))
+    ++ (setting_lines found.one ++ setting_lines found.other)))))

@@ -5,7 +5,7 @@ ghost use Rattle.std.specs.List.{flat_map};
 ghost use Rattle.json.specs.Json.{boolean};
 ghost use Rattle.json.specs.Token.{key};
 ghost use Rattle.json.specs.Tree.{json_tokens};
-ghost use Rattle.cal_timers_report.specs.rules.Documents.{comparison_members, only_json, only_of, same_document, setting_json, settings_of};
+ghost use Rattle.cal_timers_report.specs.rules.Documents.{comparison_members, only_json, only_of, reading_json, readings_of, same_document, setting_json, settings_of};
 ghost use Rattle.cal_timers_report.specs.rules.JsonParts.{array_of, object_of};
 ghost use Rattle.cal_timers_report.specs.rules.ReportView.{comparison_seen, side_seen};
 
@@ -24,8 +24,10 @@ use std::alloc::{AllocError, Global};
 ///   `unix` (the elapse in seconds of Unix time).
 /// - `settings`: an array with an object for each setting that only one of the timers has. The members of the object
 ///   are `of` (the name of the timer) and `setting`.
+/// - `read_as`: an array with an object for each expression as which an entry of a crontab was read. The members of the
+///   object are `of` (the entry) and `expression` (in normal form).
 ///
-/// In both arrays, the objects of the first timer come first. Fails only if allocation fails.
+/// In each array, the objects of the first timer come first. Fails only if allocation fails.
 pub fn same_json(
     alloc: Global,
     zone: Zone<'_>,
@@ -50,6 +52,7 @@ fn put_comparison(
     put_same(out, found)?;
     put_only(out, zone, found)?;
     put_settings(out, found)?;
+    put_readings(out, found)?;
     out.token(Token::EndObject)
 }
 
@@ -125,5 +128,35 @@ fn put_setting(out: &mut Pretty, unit: &str, setting: &str) -> Result<(), AllocE
     out.token(Token::BeginObject)?;
     put_member(out, "of", &unit)?;
     put_member(out, "setting", &setting)?;
+    out.token(Token::EndObject)
+}
+
+fn put_readings(out: &mut Pretty, found: &Comparison<'_>) -> Result<(), AllocError>
+    ensures { OnOk result (out.new ≡ out.old ++ key (codes "read_as") ∷ []
+        ++ json_tokens (array_of (readings_of (side_seen found.now.one) ++ readings_of (side_seen found.now.other)))) }
+{
+    out.token(Token::Key("read_as"))?;
+    out.token(Token::BeginArray)?;
+    put_readings_of(out, &found.one)?;
+    put_readings_of(out, &found.other)?;
+    out.token(Token::EndArray)
+}
+
+/// Writes each expression as which this timer's name was read.
+fn put_readings_of(out: &mut Pretty, side: &Side<'_>) -> Result<(), AllocError>
+    ensures { OnOk result (out.new ≡ out.old ++ flat_map json_tokens (readings_of (side_seen side.now))) }
+{
+    for expression in &side.read_as {
+        put_reading(out, side.unit, expression)?;
+    }
+    Ok(())
+}
+
+fn put_reading(out: &mut Pretty, unit: &str, expression: &str) -> Result<(), AllocError>
+    ensures { OnOk result (out.new ≡ out.old ++ json_tokens (reading_json unit.now expression.now)) }
+{
+    out.token(Token::BeginObject)?;
+    put_member(out, "of", &unit)?;
+    put_member(out, "expression", &expression)?;
     out.token(Token::EndObject)
 }

@@ -5,6 +5,7 @@ use Rattle.std.specs.Fmt.{decimal}
 use Rattle.std.specs.List.{list_any, suffix_len}
 use Rattle.std.specs.Option.{option_and_then, unwrap_or}
 use Rattle.cal_bytes.specs.rules.Separators.{is_slash}
+use Rattle.cal_cron.specs.rules.CronMessages as cron_messages
 use Rattle.cal_load.specs.declared.calendar.IgnoredLine.{IgnoredLine}
 use Rattle.cal_load.specs.declared.loaded.LoadedTimer.{LoadedTimer}
 use Rattle.cal_load.specs.declared.readable.BrokenLine.{BrokenLine}
@@ -105,11 +106,12 @@ idle_line_of timer files (ignored ∷ others) = place_text timer files ignored.n
 unfoldable pub idle_line : List ℕ → TimerFiles → List ℕ
 idle_line timer files = idle_line_of timer files files.ignored.items
 
--- the line about the contents of a timer's files, or about an expression; empty for other errors
+-- the line about the contents of a timer's files, or about an expression or an entry of a crontab; empty for other errors
 abbrev pub content_line : List ℕ → TargetReason → List ℕ
 content_line target (reasons.Broken path line) = position_text (string_bytes path) line.number ++ broken_words line.reason
 content_line target (reasons.NothingToDo timer files) = idle_line target files
 content_line target (reasons.Expression fault) = subject_line target (message_of fault)
+content_line target (reasons.CrontabEntry fault) = subject_line target (cron_messages.message_of fault)
 content_line target (reasons.ExpressionZone zone reason) = subject_line target (zone_message (string_bytes zone) reason)
 content_line target reason = []
 

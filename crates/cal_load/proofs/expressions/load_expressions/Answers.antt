@@ -15,6 +15,6 @@ returns-in-Err-clause-outcome g c =
     let entries = map shown c.loop-expression.lines.items in
     IfOk-weaker c.only_fault.result _ _ (λ loaded single.
     invalid_only _ (map (λ text. text.now) c.args.expressions.now) _ c.in-Err.fault loaded c.in-Err.ensures.fault
-    (λ fault bad. invalid_first c.args.expressions.now c.loop-expression.expression-index _ entries fault here c.loop-expression.invariant bad)
+    (λ why bad. invalid_first c.args.expressions.now c.loop-expression.expression-index _ entries why here c.loop-expression.invariant bad)
     single)
     c.only_fault.ensures

@@ -8,5 +8,5 @@ use Rattle.cal_timers_report.proofs.documents.same.put_comparison.Goals as goal
 pub returns : goal.returns
 returns c =
     let puts = object_put (comparison_members c.args.zone (comparison_seen c.args.found.now)) _ _ _ _ c.in_ok-token.ensures.ok
-    (_, c.in_ok-put_same.ensures, (_, c.in_ok-put_only.ensures, (_, c.in_ok-put_settings.ensures, refl))) in
+    (_, c.in_ok-put_same.ensures, (_, c.in_ok-put_only.ensures, (_, c.in_ok-put_settings.ensures, (_, c.in_ok-put_readings.ensures, refl)))) in
     on_ok_weaker c.token-2.result puts c.token-2.ensures.ok
