@@ -1,3 +1,4 @@
+mod CrontabFileLemmas
 mod DocumentLemmas
 mod EntryLemmas
 mod FindingLemmas

@@ -150,7 +150,12 @@ impl Crontabs {
         Ok(())
     }
 
-    fn push_file(&mut self, alloc: Global, path: &str, bytes: &[u8]) -> Result<(), AllocError>
+    pub(crate) fn push_file(
+        &mut self,
+        alloc: Global,
+        path: &str,
+        bytes: &[u8],
+    ) -> Result<(), AllocError>
         ensures { OnOk result (AreAlso (crontab_of (record { path = path.now; bytes = bytes.now }) ∷ []) [] self.old self.new) }
     {
         self.crontabs.push(Crontab {
@@ -170,7 +175,12 @@ impl Crontabs {
         Ok(())
     }
 
-    fn push_fault(&mut self, alloc: Global, path: &str, reason: Reason) -> Result<(), AllocError>
+    pub(crate) fn push_fault(
+        &mut self,
+        alloc: Global,
+        path: &str,
+        reason: Reason,
+    ) -> Result<(), AllocError>
         ensures { OnOk result (AreAlso [] (record { path = path.now; reason = reason } ∷ []) self.old self.new) }
     {
         let path = String::from_str(alloc, path)?;

@@ -1,6 +1,7 @@
 //! Reading crontabs, and the report of their entries as settings of timers.
 #![tactic(auto)]
 
+mod crontab_files;
 mod crontabs;
 mod document;
 mod entries;
@@ -12,6 +13,7 @@ mod laws;
 mod lines;
 mod notes;
 
+pub use crontab_files::{is_crontab, load_crontab_files};
 pub use crontabs::{Crontab, Crontabs, is_path_start, load_crontabs};
 pub use document::entries_json;
 pub use entries::{CronEntry, CronReport, cron_report};
