@@ -1,5 +1,8 @@
 -- Lemmas on what is found when a question is read.
-use Rattle.std.proofs.Common.{◌≡◌, ◌∙◌, ℕ, All, Bool, Bor, true, false, List, [], ◌∷◌, Option, None, Some, ap, inl, inr, map, refl, string_bytes, subst, sym}
+use Rattle.std.proofs.Common.{◌≡◌, ◌∙◌, ◌==◌, ℕ, ◌+◌, ◌<◌, All, Bool, Bor, true, false, List, [], ◌∷◌, ◌++◌, Option, None, Some, ap, filter, get_or, inl, inr, length, map, refl, string_bytes, subst, sym, take, true≢false}
+use Rattle.std.proofs.lemmas.Bool.{eqb-true}
+use Rattle.std.proofs.lemmas.List.{map-append, nil_from_length, take_more}
+use Rattle.std.proofs.lemmas.List.Elements.{All-nil, filter-append}
 use Rattle.cal_machine.specs.declared.raw.Raw.{Ghosts}
 use Rattle.cal_machine.specs.declared.recorder.Recorder.{Recorder}
 use Rattle.cal_machine.specs.rules.Machine.{Machine}
@@ -7,21 +10,21 @@ use Rattle.cal_machine.specs.rules.Recorded.{AgreesWith}
 use Rattle.cal_machine.specs.rules.Recording.{read_by, read_by-given, read_by-shows}
 use Rattle.cal_machine.specs.rules.Seen.{some_machine, some_machine-matches}
 use Rattle.cal_timers_command.specs.declared.question.Command.{Command}
+use Rattle.cal_unit_index.specs.rules.Files.{shown_unit_text}
 use Rattle.cal_unit_index.specs.rules.Index.{IsIndexOf}
 use Rattle.cal_load.specs.declared.files.LoadedFiles.{LoadedFiles}
 use Rattle.cal_load.specs.declared.loaded.Loaded.{Loaded}
 use Rattle.cal_load.specs.declared.target_fault.TargetReason.{TargetReason}
 use Rattle.cal_load.specs.declared.target_fault.TargetReason.TheVariants.{NotFound, Template, TooManyAliases, Path, Broken, NothingToDo, Expression, CrontabEntry, ExpressionZone}
-use Rattle.cal_load.specs.rules.AllFiles.{AreTextsAt, all_paths, paths_by}
 use Rattle.cal_load.specs.rules.AllTargets.{HasAll, HasAllTargets, HasAllUnits, IsOutcome, Sought}
 use Rattle.cal_load.specs.rules.AllUnits.{shown_stems, started_if_all}
 use Rattle.cal_load.specs.rules.Expressions.{IsExpressionReason, IsTimerOrReason}
-use Rattle.cal_load.specs.rules.FileFaults.{AreFaultsOf, all_lost, lost_by}
-use Rattle.std.specs.List.{flat_map}
+use Rattle.cal_load.specs.rules.FileFaults.{AreFaultsOf}
 use Rattle.cal_answers.specs.declared.found.Known.{Known}
 use Rattle.cal_answers.specs.declared.found.LoadedByVerb.{LoadedByVerb}
 use Rattle.cal_answers.specs.declared.found.LoadedByVerb.TheVariants as loads
 use Rattle.cal_answers.specs.rules.Found.{AreAll, AreAllOn, AreFilesOn, AreLoadedOn, FollowsFromRead, HasAllFor, HasAllLinted, HasDue, HasUnits, IsIndexFor, IsKnownOn, IsLoadedFor, IsPathOf, asks_all, needs_units}
+use Rattle.cal_answers.specs.rules.LintTargets.{AreFilesOf, AreNamedFiles, HasNoneIfCrontabs, other_targets}
 use Rattle.cal_answers.specs.rules.LocalClock.{IsLocalZone, clock_zone, local_zone_of, shown_zone_of}
 use Rattle.cal_answers.specs.rules.MachinePath.{machine_path}
 use Rattle.cal_answers.specs.rules.RangeZones.{AreRangeZones}
@@ -61,7 +64,11 @@ for_at Knows machine path is_all (one ∷ rest) timers knows all = all_at Knows 
 linted_at : (Knows : Machine → List (List ℕ) → Type 0) (machine : Machine) (path : List (List ℕ)) (is_all : Bool) (targets : List (List ℕ)) (timers : Loaded) → Knows machine path
     → HasAllLinted Knows is_all targets timers → HasAllLinted (λ other folders. (other ≡ machine) × (folders ≡ path)) is_all targets timers
 linted_at Knows machine path is_all [] timers knows all = units_at Knows machine path is_all timers knows all
-linted_at Knows machine path is_all (one ∷ rest) timers knows all = tt
+linted_at Knows machine path is_all (one ∷ rest) timers knows all = (
+  all.0,
+  all.1,
+  λ other folders same none. all.2 machine path knows (subst (λ other. other_targets all.0 other (one ∷ rest) ≡ []) same.0 none),
+)
 
 -- `HasAllFor` holds if everything that the targets stand for was looked for; without targets, these are the units that
 -- other units start or, if `is_all` is true, all units
@@ -73,20 +80,51 @@ pub all_for : (Shows : Machine → Type 0) (Is : Machine → List (List ℕ) →
 all_for Shows Is is_all [] loaded units started targets = (units refl, λ machine path knows. started refl machine path knows.0 knows.1)
 all_for Shows Is is_all (one ∷ rest) loaded units started targets = targets (λ h. absurd (cc))
 
--- `HasAllLinted` holds if, in the case without targets, all units were looked for (`HasUnits`)
+-- if there are targets, `HasAllLinted` holds if no timers were loaded in the case that all of them are crontabs
 pub all_linted : (Knows : Machine → List (List ℕ) → Type 0) (is_all : Bool) (targets : List (Bor (List ℕ))) (loaded : Loaded)
-    → (targets ≡ [] → HasUnits Knows is_all loaded) → HasAllLinted Knows is_all (map (λ text. text.now) targets) loaded
-all_linted Knows is_all [] loaded units = units refl
-all_linted Knows is_all (one ∷ rest) loaded units = tt
+    → (targets ≡ [] → ⊥) → HasNoneIfCrontabs Knows (map (λ text. text.now) targets) loaded
+    → HasAllLinted Knows is_all (map (λ text. text.now) targets) loaded
+all_linted Knows is_all [] loaded some none = absurd (some refl)
+all_linted Knows is_all (one ∷ rest) loaded some none = none
 
--- `AreFilesOn` holds if the files of all units or of what is named were loaded
+-- a list is empty if it is seen as an empty one
+pub none_seen : (targets : List (Bor (List ℕ))) → map (λ text. text.now) targets ≡ [] → targets ≡ []
+none_seen [] is = refl
+none_seen (one ∷ rest) is = absurd (cc)
+
+pub no_targets : (targets : List (Bor (List ℕ))) → (length targets == 0) ≡ true → targets ≡ []
+no_targets targets is = nil_from_length targets (eqb-true (length targets) 0 is)
+
+pub some_targets : (targets : List (Bor (List ℕ))) → (length targets == 0) ≡ false → targets ≡ [] → ⊥
+some_targets [] is none = true≢false is
+some_targets (one ∷ rest) is none = cc
+
+-- a loop's step: one more target is among the targets that pass a test, if it passes the test
+pub targets_more : (test : List ℕ → Bool) (xs : List (Bor (List ℕ))) (i : ℕ) (x : Bor (List ℕ)) (now new : List (List ℕ)) → i < length xs
+    → now ≡ filter test (map (λ text. text.now) (take i xs)) → new ≡ now ++ filter test ((get_or xs i x).now ∷ [])
+    → new ≡ filter test (map (λ text. text.now) (take (i + 1) xs))
+targets_more test xs i x now new within was more =
+    more ∙ ap (λ texts. texts ++ filter test ((get_or xs i x).now ∷ [])) was
+    ∙ sym (filter-append test (map (λ text. text.now) (take i xs)) ((get_or xs i x).now ∷ []))
+    ∙ ap (filter test)
+    (sym (map-append (λ (text : Bor (List ℕ)). text.now) (take i xs) (get_or xs i x ∷ []))
+    ∙ ap (map (λ (text : Bor (List ℕ)). text.now)) (sym (take_more xs i x within)))
+
+-- no file was loaded for no target
+pub no_files : (machine : Machine) (path : List (List ℕ)) (targets : List (Bor (List ℕ))) (files : LoadedFiles) → targets ≡ []
+    → files.files.items ≡ [] → files.faults.items ≡ [] → AreFilesOf machine path (map (λ text. text.now) targets) files
+no_files machine path targets files none empty no_faults =
+    subst (λ (targets : List (Bor (List ℕ))). AreFilesOf machine path (map (λ text. text.now) targets) files) (sym none) (
+      ap (map shown_unit_text) empty,
+      subst (AreFaultsOf []) (sym no_faults) (record { true_of = All-nil _; whole = All-nil _ }),
+    )
+
+-- if there are targets, `AreFilesOn` holds if the files of all of them except crontabs were loaded
 pub files_on : (machine : Machine) (path : List (List ℕ)) (is_all : Bool) (targets : List (Bor (List ℕ))) (files : LoadedFiles)
-    → (targets ≡ [] → AreTextsAt machine (all_paths machine path is_all) files.files.items × AreFaultsOf (all_lost machine path is_all) files.faults.items)
-    → ((targets ≡ [] → ⊥) → AreTextsAt machine (flat_map (paths_by machine path) (map (λ text. text.now) targets)) files.files.items
-    × AreFaultsOf (flat_map (lost_by machine path) (map (λ text. text.now) targets)) files.faults.items)
+    → (targets ≡ [] → ⊥) → AreNamedFiles machine path (map (λ text. text.now) targets) files
     → AreFilesOn machine path is_all (map (λ text. text.now) targets) files
-files_on machine path is_all [] files whole named = whole refl
-files_on machine path is_all (one ∷ rest) files whole named = named (λ h. absurd (cc))
+files_on machine path is_all [] files some named = absurd (some refl)
+files_on machine path is_all (one ∷ rest) files some named = named
 
 reason_at : (Shows Knows : Machine → Type 0) (texts : List (List ℕ)) (target : List ℕ) (reason : TargetReason) → ((machine : Machine) → Knows machine → Shows machine)
     → IsExpressionReason Shows texts target reason → IsExpressionReason Knows texts target reason
@@ -119,7 +157,7 @@ pub loaded_at : (Knows : Machine → List (List ℕ) → Type 0) (machine : Mach
     → AreAll Knows all_units about loaded → AreAllOn machine path all_units about loaded
 loaded_at Knows machine path all_units about (loads.List timers named is_all) knows all = for_at Knows machine path all_units (map string_bytes named.now) timers knows all
 loaded_at Knows machine path all_units about (loads.Show timers named count) knows all = for_at Knows machine path all_units (map string_bytes named.now) timers knows all
-loaded_at Knows machine path all_units about (loads.Lint files timers named is_strict) knows all = (
+loaded_at Knows machine path all_units about (loads.Lint files timers crontabs named is_strict) knows all = (
   linted_at Knows machine path all_units (map string_bytes named.now) timers knows all.0,
   λ other folders same.
       subst (λ other. AreFilesOn other folders all_units (map string_bytes named.now) files) (sym same.0)

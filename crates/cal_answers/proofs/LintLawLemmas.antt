@@ -6,6 +6,7 @@ use Rattle.std.proofs.lemmas.Slice.Eq.{bytes_eq-Decides}
 use Rattle.std.specs.List.{All, AllByRecursion, list_any}
 use Rattle.std.specs.Str.{bytes_eq}
 use Rattle.cal_machine.specs.rules.Machine.{Machine}
+use Rattle.cal_crontabs.specs.declared.crontabs.Crontabs.{Crontabs}
 use Rattle.cal_load.specs.declared.files.LoadedFiles.{LoadedFiles}
 use Rattle.cal_load.specs.declared.loaded.Loaded.{Loaded}
 use Rattle.cal_timers_report.specs.declared.style.Style.{Style}
@@ -13,6 +14,7 @@ use Rattle.cal_answers.specs.declared.answer.Asked.{Asked}
 use Rattle.cal_answers.specs.declared.candidates.Unless.{Unless}
 use Rattle.cal_answers.specs.declared.candidates.Unless.TheVariants.{Same, ErrorInLine, ProblemInLine}
 use Rattle.cal_answers.specs.rules.LintCandidates.{Candidate, candidate_row, candidate_text, has_in_line, has_in_line_of, has_text, is_left_out, with_candidate, with_candidates}
+use Rattle.cal_answers.specs.rules.LintCrontabs.{with_problem, with_problems}
 use Rattle.cal_answers.specs.rules.LintLaw.{AreDistinct, HasError, HasWarning, IsFailure}
 use Rattle.cal_answers.specs.rules.LintOutput.{IsLint, all_problems, has_lines}
 use Rattle.cal_answers.specs.rules.LintRows.{Listed, is_error_at, is_problem_at, lint_counts}
@@ -74,9 +76,9 @@ status_if false false false warnings E W has_e has_w = (
   ],
 )
 
-pub fails_if : (asked : Asked) (is_strict : Bool) (machine : Machine) (path : List (List ℕ)) (files : LoadedFiles) (loaded : Loaded) (out err : List ℕ) (status : ℕ) (is : IsLint asked is_strict machine path files loaded out err status)
+pub fails_if : (asked : Asked) (is_strict : Bool) (machine : Machine) (path : List (List ℕ)) (files : LoadedFiles) (loaded : Loaded) (crontabs : Crontabs) (out err : List ℕ) (status : ℕ) (is : IsLint asked is_strict machine path files loaded crontabs out err status)
     → (status ≡ 1) ↔ IsFailure is_strict (has_lines err) (all_problems asked machine path loaded is.found)
-fails_if asked is_strict machine path files loaded out err status is =
+fails_if asked is_strict machine path files loaded crontabs out err status is =
     let listed = all_problems asked machine path loaded is.found in
     subst (λ (n : ℕ). IsOne n ↔ IsFailure is_strict (has_lines err) listed) (sym is.ends)
     (status_if (has_lines err) (nat_lt 0 (lint_counts listed).errors) is_strict (nat_lt 0 (lint_counts listed).warnings) (HasError listed) (HasWarning listed) (errors_if listed) (warnings_if listed))
@@ -138,6 +140,16 @@ still_distinct style listed [] distinct = distinct
 still_distinct style listed (candidate ∷ rest) distinct =
     still_distinct style (with_candidate style listed candidate) rest
     (distinct_if style listed candidate (is_left_out candidate (candidate_text style candidate) listed) refl distinct)
+
+unless_listed : (listed : List Listed) (problem : Listed) (out : Bool) → has_text problem.text listed ≡ out → AreDistinct listed
+    → AreDistinct (if out then listed else listed ++ problem ∷ [])
+unless_listed listed problem true is distinct = distinct
+unless_listed listed problem false is distinct = distinct_push listed problem distinct (none_has_text listed problem.text is)
+
+pub distinct_with : (listed more : List Listed) → AreDistinct listed → AreDistinct (with_problems listed more)
+distinct_with listed [] distinct = distinct
+distinct_with listed (problem ∷ rest) distinct =
+    distinct_with (with_problem listed problem) rest (unless_listed listed problem (has_text problem.text listed) refl distinct)
 
 -- ## None missing
 

@@ -2,12 +2,14 @@
 pub mod ErrorText
 pub mod Found
 pub mod LintCandidates
+pub mod LintCrontabs
 pub mod LintFiles
 pub mod LintLaw
 pub mod LintOutput
 pub mod LintRows
 pub mod LintService
 pub mod LintStatus
+pub mod LintTargets
 pub mod LintTimers
 pub mod LintUnits
 pub mod LocalClock

@@ -197,9 +197,10 @@ fn answer_loaded(
         LoadedByVerb::Lint {
             files,
             timers,
+            crontabs,
             is_strict,
             ..
-        } => lint(alloc, asked, *is_strict, index, files, timers),
+        } => lint(alloc, asked, *is_strict, index, files, timers, crontabs),
         LoadedByVerb::Between {
             timers,
             from,
@@ -226,7 +227,8 @@ pub(crate) fn fault_lines(alloc: Global, faults: &[TargetFault]) -> Result<Strin
     Ok(lines)
 }
 
-fn push_fault_lines(
+/// Appends the error lines about timers or files that couldn't be loaded.
+pub(crate) fn push_fault_lines(
     alloc: Global,
     lines: &mut String,
     faults: &[TargetFault],

@@ -57,6 +57,8 @@ pub enum LoadedByVerb<'q> {
         files: LoadedFiles,
         /// The timers. A drop-in that is named is only among the files.
         timers: Loaded,
+        /// The crontabs that are named. They are neither among the files nor among the timers.
+        crontabs: Crontabs,
         named: &'q [String],
         /// Whether a warning gives the status 1.
         is_strict: bool,

@@ -7,6 +7,7 @@ mod between;
 mod candidates;
 mod compare;
 mod cron;
+mod crontab_problems;
 mod due;
 mod fault;
 mod found;

@@ -1,43 +1,46 @@
-//! The verb `lint`: all problems of the files of timers, of the timers themselves, and lines that have no effect.
+//! The verb `lint`: all problems of the files of timers, of crontabs, of the timers themselves, and lines that have no
+//! effect.
 
 ghost use Rattle.std.specs.Prelude.{◌≡◌, ◌≤◌, ◌++◌, ℕ, IfOk, List, OnOk, map, string_bytes};
 ghost use Rattle.std.specs.List.{flat_map};
 ghost use Rattle.cal_machine.specs.rules.Machine.{Machine};
 ghost use Rattle.cal_timers_report.specs.rules.Documents.{lint_document};
 ghost use Rattle.cal_timers_text.specs.rules.ErrorLines.{unread_words};
-ghost use Rattle.cal_unit_index.specs.rules.Index.{IsIndexOf};
+ghost use Rattle.cal_unit_index.specs.rules.Index.{IsIndexOf, shown_fault};
 ghost use Rattle.cal_answers.specs.rules.ErrorText.{lint_lines, unfound_line};
 ghost use Rattle.cal_answers.specs.rules.LintCandidates.{shown_candidate, with_candidates};
 ghost use Rattle.cal_answers.specs.rules.LintFiles.{AreProblemsOfFiles, AreProblemsOfText, HasAlso};
 ghost use Rattle.cal_answers.specs.rules.LintOutput.{IsLintBy, has_lines, lint_output};
 ghost use Rattle.cal_answers.specs.rules.LintRows.{listed_in, rows_of};
 ghost use Rattle.cal_answers.specs.rules.LintStatus.{lint_status};
-ghost use Rattle.cal_answers.specs.rules.LintTimers.{problems_of_timers, unread, unread_error, unread_errors};
+ghost use Rattle.cal_answers.specs.rules.LintTimers.{path_words, problems_of_timers, unread, unread_error, unread_errors};
 
-use crate::answer::{Answer, Asked, INVALID, fault_lines};
+use crate::answer::{Answer, Asked, INVALID, fault_lines, push_fault_lines};
 use crate::candidates::{Candidate, push_error_about};
 use crate::compare::push_line_unless;
+use crate::crontab_problems::add_crontabs;
 use crate::index::target_faults;
 use crate::problems::Problems;
 use crate::remarks::is_not_found;
 use crate::service_problems::add_unguarded;
 use crate::setting_problems::add_missing_units;
 use crate::timer_problems::{add_failed, add_idle, add_ignored_of};
+use cal_crontabs::Crontabs;
 use cal_lint::findings;
 use cal_load::{Loaded, LoadedFiles, TargetFault};
 use cal_tasks::Clocked;
 use cal_timers_report::Style;
 use cal_timers_text::{ProblemCounts, unread_words};
-use cal_unit_index::{UnitIndex, UnitText};
+use cal_unit_index::{UnitFault, UnitIndex, UnitText};
 use std::alloc::{AllocError, Global};
 
 /// The maximum size of the text of a file, in bytes. A file has at most 1,048,576 bytes, and each byte that isn't UTF-8
 /// is replaced by at most three bytes.
 const MAX_TEXT: usize = 3 * 1_048_576;
 
-/// Returns all problems of the files, each file checked by itself; then what is wrong with the timers that are made of
-/// them; then warnings about expressions and exceptions that have no effect; and then warnings about exceptions that
-/// systemd ignores. `index` is the index of the search path, and `is_strict` says whether a warning gives the status
+/// Returns all problems of the files, each file checked by itself; then those of the crontabs; then what is wrong with
+/// the timers that are made of the files; then warnings about expressions and exceptions that have no effect; and then
+/// warnings about exceptions that systemd ignores. `index` is the index of the search path, and `is_strict` says whether a warning gives the status
 /// [`INVALID`].
 pub(crate) fn lint(
     alloc: Global,
@@ -46,13 +49,21 @@ pub(crate) fn lint(
     index: &UnitIndex,
     files: &LoadedFiles,
     timers: &Loaded,
+    crontabs: &Crontabs,
 ) -> Result<Answer, AllocError>
     ensures status { IfOk result (λ answer. answer.status ≤ 2) }
-    ensures prints { IfOk result (λ answer. IsLintBy asked.entry is_strict index.now files.now timers.now (string_bytes answer.out) (string_bytes answer.err) answer.status) }
-    ensures lines { IfOk result (λ answer. string_bytes answer.err ≡ lint_lines files.now.faults.items timers.now.faults.items) }
+    ensures prints { IfOk result (λ answer. IsLintBy asked.entry is_strict index.now files.now timers.now crontabs.now (string_bytes answer.out) (string_bytes answer.err) answer.status) }
+    ensures lines { IfOk result (λ answer. string_bytes answer.err
+        ≡ lint_lines files.now.faults.items timers.now.faults.items crontabs.now.faults.items) }
 {
     let mut problems = Problems::new(alloc);
     add_files(alloc, asked.style, files.files.as_slice(), &mut problems)?;
+    add_crontabs(
+        alloc,
+        asked.style,
+        crontabs.crontabs.as_slice(),
+        &mut problems,
+    )?;
     let found = problems_of_timers(alloc, asked.at, index, timers)?;
     problems.add_all(alloc, asked.style, found.as_slice())?;
     add_unguarded(
@@ -62,10 +73,15 @@ pub(crate) fn lint(
         asked.unguarded,
         &mut problems,
     )?;
-    let err = error_lines(alloc, files.faults.as_slice(), timers.faults.as_slice())?;
+    let err = error_lines(
+        alloc,
+        files.faults.as_slice(),
+        timers.faults.as_slice(),
+        crontabs.faults.as_slice(),
+    )?;
     let counts = problems.counts();
     let status = lint_status(is_strict, counts, has_lines(err.as_str()));
-    let lacking = unread(alloc, index, files, timers)?;
+    let lacking = unread(alloc, index, files, timers, crontabs)?;
     let out = lint_output(alloc, asked, lacking.as_slice(), problems)?;
     Ok(Answer { out, err, status })
 }
@@ -142,16 +158,30 @@ fn unread(
     index: &UnitIndex,
     files: &LoadedFiles,
     timers: &Loaded,
+    crontabs: &Crontabs,
 ) -> Result<Vec<Candidate>, AllocError>
     ensures { IfOk result (λ found. (machine : Machine) (path : List (List ℕ)) → IsIndexOf machine path index.now
-        → map shown_candidate found.items ≡ unread machine path files.now timers.now) }
+        → map shown_candidate found.items ≡ unread machine path files.now timers.now crontabs.now) }
 {
     let mut found = Vec::new(alloc);
     add_unread(alloc, files.faults.as_slice(), &mut found)?;
     add_unread(alloc, timers.faults.as_slice(), &mut found)?;
-    let faults = target_faults(alloc, index.unreadable())?;
-    add_unread(alloc, faults.as_slice(), &mut found)?;
+    add_unread_paths(alloc, crontabs.faults.as_slice(), &mut found)?;
+    add_unread_paths(alloc, index.unreadable(), &mut found)?;
     Ok(found)
+}
+
+/// Appends an error for each of these paths that can't be read.
+fn add_unread_paths(
+    alloc: Global,
+    unreadable: &[UnitFault],
+    found: &mut Vec<Candidate>,
+) -> Result<(), AllocError>
+    ensures { OnOk result (map shown_candidate found.new.items
+        ≡ map shown_candidate found.old.items ++ unread_errors (map path_words (map shown_fault unreadable.now))) }
+{
+    let faults = target_faults(alloc, unreadable)?;
+    add_unread(alloc, faults.as_slice(), found)
 }
 
 /// Appends an error for each of `faults` that says that something can't be found or read.
@@ -183,17 +213,20 @@ fn add_if_unread(
     }
 }
 
-/// Returns the error lines about units, files and folders that can't be read (`of_files`), and those about timers that
-/// weren't found, such as links to nothing.
+/// Returns the error lines about units, files and folders that can't be read (`of_files`), those about timers that
+/// weren't found, such as links to nothing, and those about crontabs that can't be read.
 fn error_lines(
     alloc: Global,
     of_files: &[TargetFault],
     timers: &[TargetFault],
+    crontabs: &[UnitFault],
 ) -> Result<String, AllocError>
-    ensures { IfOk result (λ lines. string_bytes lines ≡ lint_lines of_files.now timers.now) }
+    ensures { IfOk result (λ lines. string_bytes lines ≡ lint_lines of_files.now timers.now crontabs.now) }
 {
     let mut lines = fault_lines(alloc, of_files)?;
     push_unfound(alloc, &mut lines, of_files, timers)?;
+    let faults = target_faults(alloc, crontabs)?;
+    push_fault_lines(alloc, &mut lines, faults.as_slice())?;
     Ok(lines)
 }
 

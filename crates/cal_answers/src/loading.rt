@@ -1,15 +1,19 @@
 //! Loading what a question names.
 
-ghost use Rattle.std.specs.Prelude.{◌≡◌, ℕ, List, [], All, IfOk, map, option_map, string_bytes};
+ghost use Rattle.std.specs.Prelude.{◌≡◌, ◌∷◌, ◌++◌, ℕ, List, [], All, IfOk, OnOk, map, option_map, string_bytes};
+ghost use Rattle.cal_cron.specs.computed.Translation.{exprs_in};
 ghost use Rattle.cal_machine.specs.rules.Machine.{Machine};
 ghost use Rattle.cal_unit_index.specs.rules.Index.{IsIndexOf};
 ghost use Rattle.cal_crontabs.specs.rules.Crontabs.{AreCrontabsOn};
 ghost use Rattle.cal_load.specs.rules.Expressions.{IsTimerOrReason};
 ghost use Rattle.cal_load.specs.rules.Loaded.{IsStoredOn, IsTimerOn};
-ghost use Rattle.cal_answers.specs.rules.Found.{AreAll, AreFilesOn, AreLoadedOn, AreMadeOf, AreTimersOn, HasAllFor, HasAllLinted, HasDue, HasUnits, IsDueOn, IsLoadedFor, IsSideOn, asks_all, is_entry_reason, is_invalid_entry};
+ghost use Rattle.cal_answers.specs.rules.Found.{AreAll, AreFilesOn, AreLintedOn, AreLoadedOn, AreMadeOf, AreTimersOn, HasAllFor, HasAllLinted, HasDue, HasUnits, IsDueOn, IsLoadedFor, IsSideOn, asks_all, is_entry_reason, is_invalid_entry};
+ghost use Rattle.cal_answers.specs.rules.LintTargets.{AreFilesOf, crontab_targets, other_targets};
 
 use crate::found::LoadedByVerb;
-use cal_crontabs::{Crontabs, is_path_start, load_crontabs};
+use cal_crontabs::{
+    Crontabs, is_crontab, is_path_start, load_crontab_files, load_crontabs, times_are_read,
+};
 use cal_load::{Loaded, LoadedFiles, TargetReason, load_expressions, load_files, load_timers};
 use cal_machine::Tree;
 use cal_timers_command::Question;
@@ -60,10 +64,17 @@ pub(crate) fn load_by_verb<'q, T: Tree>(
             is_all,
             is_strict,
         } => {
-            let (files, whole) = load_linted(alloc, tree, index, timers.as_slice(), *is_all)?;
+            let (files, whole, crontabs) = load_linted(
+                alloc,
+                tree,
+                index,
+                timers.as_slice(),
+                *is_all,
+            )?;
             Ok(LoadedByVerb::Lint {
                 files,
                 timers: whole,
+                crontabs,
                 named: timers.as_slice(),
                 is_strict: *is_strict,
             })
@@ -150,31 +161,157 @@ fn load_named_crontabs<T: Tree>(
     Ok(crontabs)
 }
 
-/// Loads the named files, and the timers made of them. If `named` is empty, loads the timers that other units start or,
-/// if `is_all` is `true`, all timers, with their files.
+/// Loads the named files, the timers made of them, and the named crontabs. If `named` is empty, loads the timers that
+/// other units start or, if `is_all` is `true`, all timers, with their files.
 fn load_linted<T: Tree>(
     alloc: Global,
     tree: &mut T,
     index: &UnitIndex,
     named: &[String],
     is_all: bool,
-) -> Result<(LoadedFiles, Loaded), AllocError>
-    ensures known { IfOk result (λ both. (machine : Machine) (path : List (List ℕ)) → T.shows tree.new machine
-        → IsIndexOf machine path index.now → All (IsStoredOn machine) both.0.files.items × AreTimersOn machine path both.1) }
-    ensures whole { IfOk result (λ both. HasAllLinted (λ machine path. T.shows tree.new machine × IsIndexOf machine path index.now) is_all
-        (map string_bytes named.now) both.1) }
-    ensures files { IfOk result (λ both. (machine : Machine) (path : List (List ℕ)) → T.shows tree.new machine
-        → IsIndexOf machine path index.now → AreFilesOn machine path is_all (map string_bytes named.now) both.0) }
+) -> Result<(LoadedFiles, Loaded, Crontabs), AllocError>
+    ensures known { IfOk result (λ all. (machine : Machine) (path : List (List ℕ)) → T.shows tree.new machine
+        → IsIndexOf machine path index.now → AreLintedOn machine path (map string_bytes named.now) all.0 all.1 all.2) }
+    ensures whole { IfOk result (λ all. HasAllLinted (λ machine path. T.shows tree.new machine × IsIndexOf machine path index.now) is_all
+        (map string_bytes named.now) all.1) }
+    ensures files { IfOk result (λ all. (machine : Machine) (path : List (List ℕ)) → T.shows tree.new machine
+        → IsIndexOf machine path index.now → AreFilesOn machine path is_all (map string_bytes named.now) all.0) }
     ensures grows { (machine : Machine) → T.shows tree.new machine → T.shows tree.old machine }
 {
     let texts = texts_of(alloc, named)?;
-    let files = load_files(alloc, tree, index, texts.as_slice(), is_all)?;
-    let timers = load_whole_timers(alloc, tree, index, texts.as_slice(), is_all)?;
-    Ok((files, timers))
+    let linted = load_lint_targets(alloc, tree, index, texts.as_slice(), is_all)?;
+    Ok(linted)
+}
+
+/// Like [`load_linted`], for targets that are texts.
+fn load_lint_targets<T: Tree>(
+    alloc: Global,
+    tree: &mut T,
+    index: &UnitIndex,
+    targets: &[&str],
+    is_all: bool,
+) -> Result<(LoadedFiles, Loaded, Crontabs), AllocError>
+    ensures known { IfOk result (λ all. (machine : Machine) (path : List (List ℕ)) → T.shows tree.new machine
+        → IsIndexOf machine path index.now → AreLintedOn machine path (map (λ text. text.now) targets.now) all.0 all.1 all.2) }
+    ensures whole { IfOk result (λ all. HasAllLinted (λ machine path. T.shows tree.new machine × IsIndexOf machine path index.now) is_all
+        (map (λ text. text.now) targets.now) all.1) }
+    ensures files { IfOk result (λ all. (machine : Machine) (path : List (List ℕ)) → T.shows tree.new machine
+        → IsIndexOf machine path index.now → AreFilesOn machine path is_all (map (λ text. text.now) targets.now) all.0) }
+    ensures grows { (machine : Machine) → T.shows tree.new machine → T.shows tree.old machine }
+{
+    if targets.is_empty() {
+        let linted = load_lint_units(alloc, tree, index, is_all)?;
+        return Ok(linted);
+    }
+    times_are_read();
+    let split = split_targets(alloc, tree, targets)?;
+    let crontabs = load_crontab_files(alloc, tree, split.crontabs.as_slice())?;
+    let files = load_other_files(alloc, tree, index, split.others.as_slice(), is_all)?;
+    let timers = load_whole_timers(alloc, tree, index, split.others.as_slice(), is_all)?;
+    Ok((files, timers, crontabs))
+}
+
+/// Loads the timers that other units start or, if `is_all` is `true`, all timers, with their files. Loads no crontabs.
+fn load_lint_units<T: Tree>(
+    alloc: Global,
+    tree: &mut T,
+    index: &UnitIndex,
+    is_all: bool,
+) -> Result<(LoadedFiles, Loaded, Crontabs), AllocError>
+    ensures known { IfOk result (λ all. (machine : Machine) (path : List (List ℕ)) → T.shows tree.new machine
+        → IsIndexOf machine path index.now → AreLintedOn machine path [] all.0 all.1 all.2) }
+    ensures whole { IfOk result (λ all. HasUnits (λ machine path. T.shows tree.new machine × IsIndexOf machine path index.now) is_all all.1) }
+    ensures files { IfOk result (λ all. (machine : Machine) (path : List (List ℕ)) → T.shows tree.new machine
+        → IsIndexOf machine path index.now → AreFilesOn machine path is_all [] all.0) }
+    ensures grows { (machine : Machine) → T.shows tree.new machine → T.shows tree.old machine }
+{
+    times_are_read();
+    let crontabs = load_crontab_files(alloc, tree, &[])?;
+    let files = load_files(alloc, tree, index, &[], is_all)?;
+    let timers = load_timers(alloc, tree, index, &[], is_all)?;
+    Ok((files, timers, crontabs))
+}
+
+/// The targets of `lint`.
+#[derive(Drop)]
+struct LintTargets<'t> {
+    crontabs: Vec<&'t str>,
+    others: Vec<&'t str>,
+}
+
+/// Finds the targets that are crontabs.
+fn split_targets<'t, T: Tree>(
+    alloc: Global,
+    tree: &mut T,
+    targets: &[&'t str],
+) -> Result<LintTargets<'t>, AllocError>
+    ensures known { IfOk result (λ split. (machine : Machine) → T.shows tree.new machine
+        → (map (λ text. text.now) split.crontabs.items ≡ crontab_targets exprs_in machine (map (λ text. text.now) targets.now))
+        × (map (λ text. text.now) split.others.items ≡ other_targets exprs_in machine (map (λ text. text.now) targets.now))) }
+    ensures grows { (machine : Machine) → T.shows tree.new machine → T.shows tree.old machine }
+{
+    let mut split = LintTargets {
+        crontabs: Vec::new(alloc),
+        others: Vec::new(alloc),
+    };
+    for target in targets {
+        add_target(alloc, tree, &mut split, target)?;
+    }
+    Ok(split)
+}
+
+fn add_target<'t, T: Tree>(
+    alloc: Global,
+    tree: &mut T,
+    split: &mut LintTargets<'t>,
+    target: &'t str,
+) -> Result<(), AllocError>
+    ensures known { OnOk result ((machine : Machine) → T.shows tree.new machine
+        → (map (λ text. text.now) split.new.crontabs.items ≡ map (λ text. text.now) split.old.crontabs.items ++ crontab_targets exprs_in machine (target.now ∷ []))
+        × (map (λ text. text.now) split.new.others.items ≡ map (λ text. text.now) split.old.others.items ++ other_targets exprs_in machine (target.now ∷ []))) }
+    ensures grows { (machine : Machine) → T.shows tree.new machine → T.shows tree.old machine }
+{
+    if is_crontab(alloc, tree, target)? {
+        split.crontabs.push(target)?;
+    } else {
+        split.others.push(target)?;
+    }
+    Ok(())
+}
+
+/// Loads the files of these targets, which are not crontabs. If there are none, loads nothing.
+fn load_other_files<T: Tree>(
+    alloc: Global,
+    tree: &mut T,
+    index: &UnitIndex,
+    targets: &[&str],
+    is_all: bool,
+) -> Result<LoadedFiles, AllocError>
+    ensures known { IfOk result (λ files. (machine : Machine) → T.shows tree.new machine
+        → All (IsStoredOn machine) files.files.items) }
+    ensures files { IfOk result (λ files. (machine : Machine) (path : List (List ℕ)) → T.shows tree.new machine
+        → IsIndexOf machine path index.now → AreFilesOf machine path (map (λ text. text.now) targets.now) files) }
+    ensures grows { (machine : Machine) → T.shows tree.new machine → T.shows tree.old machine }
+{
+    if targets.is_empty() {
+        return Ok(no_files(alloc));
+    }
+    let files = load_files(alloc, tree, index, targets, is_all)?;
+    Ok(files)
+}
+
+fn no_files(alloc: Global) -> LoadedFiles
+    ensures files { result.files.items ≡ [] }
+    ensures faults { result.faults.items ≡ [] }
+{
+    LoadedFiles {
+        files: Vec::new(alloc),
+        faults: Vec::new(alloc),
+    }
 }
 
 /// Loads the timers with these names, except names that end in `.conf`: a drop-in is not a timer by itself. If there are
-/// no names, loads the timers that other units start or, if `is_all` is `true`, all timers.
+/// no other names, loads nothing.
 fn load_whole_timers<T: Tree>(
     alloc: Global,
     tree: &mut T,
@@ -184,12 +321,9 @@ fn load_whole_timers<T: Tree>(
 ) -> Result<Loaded, AllocError>
     ensures known { IfOk result (λ loaded. (machine : Machine) (path : List (List ℕ)) → T.shows tree.new machine
         → IsIndexOf machine path index.now → All (IsTimerOn machine path) loaded.timers.items) }
-    ensures whole { targets.now ≡ [] → IfOk result (HasUnits (λ machine path. T.shows tree.new machine × IsIndexOf machine path index.now) is_all) }
+    ensures none { targets.now ≡ [] → IfOk result (λ loaded. loaded.timers.items ≡ []) }
     ensures grows { (machine : Machine) → T.shows tree.new machine → T.shows tree.old machine }
 {
-    if targets.is_empty() {
-        return load_timers(alloc, tree, index, targets, is_all);
-    }
     let timers: Vec<&str> = targets
         .iter()
         .copied()

@@ -3,20 +3,23 @@
 ghost use Rattle.std.specs.Prelude.{◌≡◌, ◌++◌, ◌∷◌, [], IfOk, OnOk, count_by, map, string_bytes};
 ghost use Rattle.std.specs.List.{flat_map, list_any};
 ghost use Rattle.std.specs.Str.{bytes_eq};
+ghost use Rattle.cal_crontabs.specs.rules.Findings.{finding_message, finding_seen};
 ghost use Rattle.cal_timers_report.specs.rules.Documents.{lint_document};
 ghost use Rattle.cal_timers_report.specs.rules.ReportView.{problem_seen};
 ghost use Rattle.cal_answers.specs.rules.LintCandidates.{candidate_row, has_in_line, has_in_line_of, has_text, is_left_out, shown_candidate, with_candidate, with_candidates};
+ghost use Rattle.cal_answers.specs.rules.LintCrontabs.{listed_cron, problem_kind, with_problem};
 ghost use Rattle.cal_answers.specs.rules.LintFiles.{listed_finding};
 ghost use Rattle.cal_answers.specs.rules.LintOutput.{text_with};
 ghost use Rattle.cal_answers.specs.rules.LintService.{unguarded_problem};
 ghost use Rattle.cal_answers.specs.rules.LintRows.{is_error_at, is_error_kind, is_problem_at, lint_counts, listed_as, listed_in, rows_of, shown_problem};
 
 use crate::candidates::{Candidate, Unless};
+use cal_crontabs::{CronFinding, CronFindingKind};
 use cal_lint::{Finding, ProblemKind};
 use cal_timers_report::{ProblemRow, Style, lint_json};
 use cal_timers_text::{
-    ProblemCounts, condition_line, finding_text, message_of, problem_text, push_counts,
-    unguarded_message, unguarded_text,
+    ProblemCounts, condition_line, finding_text, message_of, placed_text, problem_text,
+    push_counts, unguarded_message, unguarded_text,
 };
 use std::alloc::{AllocError, Global};
 
@@ -111,6 +114,40 @@ impl Problems {
             message,
             suggestion: finding.suggestion,
             text: shown,
+        })?;
+        Ok(())
+    }
+
+    /// Adds a problem of a crontab, unless a problem with the same text is listed already.
+    pub(crate) fn add_cron_finding(
+        &mut self,
+        alloc: Global,
+        style: Style,
+        finding: &CronFinding<'_>,
+    ) -> Result<(), AllocError>
+        ensures { OnOk result (listed_in self.new ≡ with_problem (listed_in self.old) (listed_cron style (finding_seen finding.now))) }
+    {
+        let message = cron_message(alloc, finding.kind)?;
+        let text = placed_text(
+            alloc,
+            finding.name,
+            finding.line,
+            finding.column,
+            problem_kind(finding.kind),
+            message.as_str(),
+            style,
+        )?;
+        if self.has_text(text.as_str()) {
+            return Ok(());
+        }
+        self.list.push(Problem {
+            file: String::from_str(alloc, finding.name)?,
+            line: Some(finding.line),
+            column: Some(finding.column),
+            is_error: finding.kind.is_error(),
+            message,
+            suggestion: None,
+            text,
         })?;
         Ok(())
     }
@@ -280,6 +317,24 @@ fn error_count(problems: &[Problem]) -> usize
     ensures { result ≡ count_by (λ problem. problem.is_error) problems.now }
 {
     problems.iter().filter(|problem| problem.is_error).count()
+}
+
+fn cron_message(alloc: Global, kind: CronFindingKind) -> Result<String, AllocError>
+    ensures { IfOk result (λ message. string_bytes message ≡ finding_message kind) }
+{
+    let mut message = String::new(alloc);
+    kind.push_words(&mut message)?;
+    Ok(message)
+}
+
+fn problem_kind(kind: CronFindingKind) -> ProblemKind
+    ensures { result ≡ problem_kind kind }
+{
+    if kind.is_error() {
+        ProblemKind::Error
+    } else {
+        ProblemKind::Warning
+    }
 }
 
 fn is_error(kind: ProblemKind) -> bool

@@ -5,12 +5,13 @@ ghost use Rattle.std.specs.Prelude.{◌≡◌, ◌≤◌, ◌++◌, IfOk, OnOk, 
 ghost use Rattle.std.specs.List.{list_any};
 ghost use Rattle.cal_answers.specs.rules.ErrorText.{is_not_found};
 ghost use Rattle.cal_answers.specs.rules.Printed.{printed_of, with_notes};
-ghost use Rattle.cal_answers.specs.rules.Remarks.{empty_folder_lines, folder_lines, is_drop_in, hint_about, hint_at, if_unknown, is_assumed, is_empty, is_nothing, is_unknown, may_find_nothing, named_in, shows_no_times, unknown_name, verb_hint, with_empty_folders, zone_note};
+ghost use Rattle.cal_answers.specs.rules.Remarks.{empty_folder_lines, folder_lines, is_drop_in, hint_about, hint_at, if_unknown, is_assumed, is_empty, is_empty_lint, is_nothing, is_unknown, may_find_nothing, named_in, shows_no_times, unknown_name, verb_hint, with_empty_folders, zone_note};
 
 use crate::answer::{Answer, UNUSABLE, with_errors, with_notes};
 use crate::found::LoadedByVerb;
 use crate::local_clock::LocalClock;
-use cal_load::{Loaded, TargetFault, TargetReason};
+use cal_crontabs::Crontabs;
+use cal_load::{Loaded, LoadedFiles, TargetFault, TargetReason};
 use cal_timers_command::Verb;
 use std::alloc::{AllocError, Global};
 
@@ -216,7 +217,7 @@ fn is_drop_in(name: &str) -> bool
     name.as_bytes().ends_with(b".conf")
 }
 
-/// Returns whether loading found nothing at all: no timer, no file, no masked unit and no error. For `same`, `next`,
+/// Returns whether loading found nothing at all: no timer, no file, no crontab, no masked unit and no error. For `same`, `next`,
 /// `due` and `cron`, to which a folder can't be given, returns `false`.
 fn is_nothing(loaded: &LoadedByVerb<'_>) -> bool
     ensures { result ≡ is_nothing loaded.now }
@@ -225,14 +226,27 @@ fn is_nothing(loaded: &LoadedByVerb<'_>) -> bool
         LoadedByVerb::List { timers, .. }
         | LoadedByVerb::Show { timers, .. }
         | LoadedByVerb::Between { timers, .. } => is_empty(timers),
-        LoadedByVerb::Lint { files, timers, .. } => {
-            files.files.is_empty() && files.faults.is_empty() && is_empty(timers)
-        }
+        LoadedByVerb::Lint {
+            files,
+            timers,
+            crontabs,
+            ..
+        } => is_empty_lint(files, timers, crontabs),
         LoadedByVerb::Same { .. }
         | LoadedByVerb::Next { .. }
         | LoadedByVerb::Due { .. }
         | LoadedByVerb::Cron { .. } => false,
     }
+}
+
+fn is_empty_lint(files: &LoadedFiles, timers: &Loaded, crontabs: &Crontabs) -> bool
+    ensures { result ≡ is_empty_lint files.now timers.now crontabs.now }
+{
+    files.files.is_empty()
+        && files.faults.is_empty()
+        && crontabs.crontabs.is_empty()
+        && crontabs.faults.is_empty()
+        && is_empty(timers)
 }
 
 fn is_empty(loaded: &Loaded) -> bool

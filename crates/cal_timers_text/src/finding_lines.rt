@@ -2,7 +2,7 @@
 
 ghost use Rattle.std.specs.Prelude.{◌≡◌, ◌++◌, IfOk, OnOk, string_bytes};
 ghost use Rattle.std.specs.Option.{option_map};
-ghost use Rattle.cal_timers_text.specs.rules.LintText.{after_file, caret_line, caret_lines, counted, counts_end, counts_line, counts_separator, excerpt, finding_lines, finding_place, is_in_value, key_of, kind_text, physical_line, problem_line, suggestion_line, word_at_fault, word_from};
+ghost use Rattle.cal_timers_text.specs.rules.LintText.{after_file, caret_line, caret_lines, counted, counts_end, counts_line, counts_separator, excerpt, finding_lines, finding_place, is_in_value, key_of, kind_text, physical_line, placed_line, problem_line, suggestion_line, word_at_fault, word_from};
 
 use crate::messages::push_message;
 use cal_bytes::{first_word, trim_blanks_end};
@@ -58,6 +58,28 @@ pub fn problem_text(
     let mut out = String::new(alloc);
     push_printable(&mut out, file)?;
     push_line_number(&mut out, line)?;
+    push_kind(&mut out, kind, style)?;
+    out.push_str(message)?;
+    out.push('\n')?;
+    Ok(out)
+}
+
+/// Returns the line about a problem whose line and column are known, without the line of the file. `lint` prints it for
+/// crontabs.
+#[tactic(auto, unfolding(crate::specs::rules::LintText::placed_line))]
+pub fn placed_text(
+    alloc: Global,
+    file: &str,
+    line: u32,
+    column: u32,
+    kind: ProblemKind,
+    message: &str,
+    style: Style,
+) -> Result<String, AllocError>
+    ensures { IfOk result (λ text. string_bytes text ≡ placed_line style file.now line column kind message.now) }
+{
+    let mut out = String::new(alloc);
+    push_place(&mut out, file, line, column)?;
     push_kind(&mut out, kind, style)?;
     out.push_str(message)?;
     out.push('\n')?;

@@ -13,7 +13,7 @@ pub use fault_lines::{
     NOTHING_TO_DO, broken_drop_in_words, broken_file_words, broken_text, fault_text, ignored_text,
     unread_words, unusable_zone_text, zone_words, zones_text,
 };
-pub use finding_lines::{ProblemCounts, finding_text, problem_text, push_counts};
+pub use finding_lines::{ProblemCounts, finding_text, placed_text, problem_text, push_counts};
 pub use messages::{
     idle_words, ignored_setting_words, invalid_words, message_of, missing_unit_words, mistake_words,
 };

@@ -87,7 +87,8 @@ is_not_found _ = false
 abbrev pub unfound_line : List TargetFault → TargetFault → List ℕ
 unfound_line of_files fault = if is_not_found fault.reason then line_unless of_files fault else []
 
--- the error lines about files, and then those about timers that aren't found; such a line is left out if an error about
--- files has the same target
-abbrev pub lint_lines : List TargetFault → List TargetFault → List ℕ
-lint_lines of_files faults = fault_lines of_files ++ flat_map (unfound_line of_files) faults
+-- the error lines about files; then those about timers that aren't found, where a line is left out if an error about
+-- files has the same target; and then those about crontabs
+abbrev pub lint_lines : List TargetFault → List TargetFault → List UnitFault → List ℕ
+lint_lines of_files faults crontabs =
+    (fault_lines of_files ++ flat_map (unfound_line of_files) faults) ++ unreadable_lines crontabs

@@ -1,7 +1,7 @@
 -- What `read_question` finds: all that the answer to a question depends on, or why the question can't be answered.
 -- `calendar-timers` calls it once per run.
 use Rattle.std.specs.Prelude.{◌≡◌, ◌⊎◌, ◌==◌, ◌&&◌, ◌||◌, ⊤, ℕ, ℤ, Bool, true, false, not, All, List, [], ◌∷◌, Option, None, Some, length, map, option_map, slice_get, string_bytes}
-use Rattle.std.specs.List.{flat_map, list_any}
+use Rattle.std.specs.List.{list_any}
 use Rattle.std.specs.Option.{option_map_or, option_or}
 use Rattle.cal_machine.specs.rules.Machine.{Machine}
 use Rattle.cal_machine.specs.rules.Seen.{AllGiven, Matches, Said, Seen}
@@ -10,22 +10,24 @@ use Rattle.cal_timers_command.specs.declared.question.Question.{Question}
 use Rattle.cal_timers_command.specs.declared.question.Question.TheVariants as questions
 use Rattle.cal_unit_index.specs.declared.index.UnitIndex.{UnitIndex}
 use Rattle.cal_unit_index.specs.rules.Index.{IsIndexOf}
+use Rattle.cal_crontabs.specs.declared.crontabs.Crontabs.{Crontabs}
 use Rattle.cal_crontabs.specs.rules.Crontabs.{AreCrontabsOn, is_path_start}
 use Rattle.cal_load.specs.declared.files.LoadedFiles.{LoadedFiles}
 use Rattle.cal_load.specs.declared.loaded.Loaded.{Loaded}
 use Rattle.cal_load.specs.declared.target_fault.TargetFault.{TargetFault}
 use Rattle.cal_load.specs.declared.target_fault.TargetReason.{TargetReason}
 use Rattle.cal_load.specs.declared.target_fault.TargetReason.TheVariants as reasons
-use Rattle.cal_load.specs.rules.AllFiles.{AreTextsAt, all_paths, paths_by}
+use Rattle.cal_load.specs.rules.AllFiles.{AreTextsAt, all_paths}
 use Rattle.cal_load.specs.rules.AllTargets.{HasAllTargets, HasAllUnits, is_path}
 use Rattle.cal_load.specs.rules.AllUnits.{shown_stems, started_if_all}
 use Rattle.cal_load.specs.rules.Expressions.{IsMadeOf, IsTimerOrReason}
-use Rattle.cal_load.specs.rules.FileFaults.{AreFaultsOf, all_lost, lost_by}
+use Rattle.cal_load.specs.rules.FileFaults.{AreFaultsOf, all_lost}
 use Rattle.cal_load.specs.rules.Loaded.{IsStoredOn, IsTimerOn}
 use Rattle.cal_answers.specs.declared.found.Found as founds
 use Rattle.cal_answers.specs.declared.found.Known.{Known}
 use Rattle.cal_answers.specs.declared.found.LoadedByVerb.{LoadedByVerb}
 use Rattle.cal_answers.specs.declared.found.LoadedByVerb.TheVariants as loads
+use Rattle.cal_answers.specs.rules.LintTargets.{AreNamedCrontabs, AreNamedFiles, HasNoneIfCrontabs}
 use Rattle.cal_answers.specs.rules.LocalClock.{IsLocalZone, clock_zone, local_zone_of, shown_zone_of}
 use Rattle.cal_answers.specs.rules.MachinePath.{machine_path}
 use Rattle.cal_answers.specs.rules.Present.{IsPresent}
@@ -67,12 +69,17 @@ IsDueOn machine path None timer = timer ≡ None
 IsDueOn machine path (Some about) None = ⊥
 IsDueOn machine path (Some about) (Some timer) = AreTimersOn machine path timer
 
+-- what was loaded for `lint`: files and timers of the machine, and those of the targets that are crontabs
+abbrev pub AreLintedOn : Machine → List (List ℕ) → List (List ℕ) → LoadedFiles → Loaded → Crontabs → Type 0
+AreLintedOn machine path targets files timers crontabs =
+    All (IsStoredOn machine) files.files.items × AreTimersOn machine path timers × AreNamedCrontabs machine targets crontabs
+
 -- the timers, the files and the crontabs that were loaded are those of the machine; `about` is the timer that `due` is about
 abbrev pub AreLoadedOn : Machine → List (List ℕ) → Option (List ℕ) → LoadedByVerb → Type 0
 AreLoadedOn machine path about (loads.List timers named is_all) = AreTimersOn machine path timers
 AreLoadedOn machine path about (loads.Show timers named count) = AreTimersOn machine path timers
-AreLoadedOn machine path about (loads.Lint files timers named is_strict) =
-    All (IsStoredOn machine) files.files.items × AreTimersOn machine path timers
+AreLoadedOn machine path about (loads.Lint files timers crontabs named is_strict) =
+    AreLintedOn machine path (map string_bytes named.now) files timers crontabs
 AreLoadedOn machine path about (loads.Between timers named from to) = AreTimersOn machine path timers
 AreLoadedOn machine path about (loads.Same first one second other) =
     IsSideOn machine path one.now first × IsSideOn machine path other.now second
@@ -84,7 +91,7 @@ AreLoadedOn machine path about (loads.Cron crontabs named) = AreCrontabsOn machi
 abbrev pub IsLoadedFor : Question → LoadedByVerb → Type 0
 IsLoadedFor (questions.List given all) (loads.List timers named is_all) = (named.now ≡ given.items) × (is_all ≡ all)
 IsLoadedFor (questions.Show given most) (loads.Show timers named count) = (named.now ≡ given.items) × (count ≡ most)
-IsLoadedFor (questions.Lint given all strict) (loads.Lint files timers named is_strict) = (named.now ≡ given.items) × (is_strict ≡ strict)
+IsLoadedFor (questions.Lint given all strict) (loads.Lint files timers crontabs named is_strict) = (named.now ≡ given.items) × (is_strict ≡ strict)
 IsLoadedFor (questions.Between start end given all) (loads.Between timers named from to) =
     (named.now ≡ given.items) × (from.now ≡ string_bytes start) × (to.now ≡ string_bytes end)
 IsLoadedFor (questions.Same a b) (loads.Same first one second other) = (one.now ≡ string_bytes a) × (other.now ≡ string_bytes b)
@@ -138,20 +145,18 @@ abbrev pub HasAllFor : (Machine → List (List ℕ) → Type 0) → Bool → Lis
 HasAllFor Knows is_all [] timers = HasUnits Knows is_all timers
 HasAllFor Knows is_all (one ∷ rest) timers = HasAllTargets Knows (one ∷ rest) timers
 
--- Without a target, the units that `HasUnits` describes were looked for. If there are targets, this says nothing, since
--- targets that end in `.conf` aren't loaded as timers.
+-- Without a target, the units that `HasUnits` describes were looked for. If all targets are crontabs, no timer was loaded.
+-- If there are other targets, this says nothing, since targets that end in `.conf` aren't loaded as timers.
 abbrev pub HasAllLinted : (Machine → List (List ℕ) → Type 0) → Bool → List (List ℕ) → Loaded → Type 0
 HasAllLinted Knows is_all [] timers = HasUnits Knows is_all timers
-HasAllLinted Knows is_all (one ∷ rest) timers = ⊤
+HasAllLinted Knows is_all (one ∷ rest) timers = HasNoneIfCrontabs Knows (one ∷ rest) timers
 
--- These are the texts of all files that `lint` examines, and the errors about those that can't be read: the files of
--- what is named or, if nothing is, of the units that other units start or, if `is_all` is true, of all units.
+-- These are the texts of all files that `lint` examines besides crontabs, and the errors about those that can't be read:
+-- the files of what is named or, if nothing is, of the units that other units start or, if `is_all` is true, of all units.
 abbrev pub AreFilesOn : Machine → List (List ℕ) → Bool → List (List ℕ) → LoadedFiles → Type 0
 AreFilesOn machine path is_all [] files =
     AreTextsAt machine (all_paths machine path is_all) files.files.items × AreFaultsOf (all_lost machine path is_all) files.faults.items
-AreFilesOn machine path is_all (one ∷ rest) files =
-    AreTextsAt machine (flat_map (paths_by machine path) (one ∷ rest)) files.files.items
-    × AreFaultsOf (flat_map (lost_by machine path) (one ∷ rest)) files.faults.items
+AreFilesOn machine path is_all (one ∷ rest) files = AreNamedFiles machine path (one ∷ rest) files
 
 -- The timer that `due` is about was looked for, and nothing else was loaded.
 abbrev pub HasDue : (Machine → List (List ℕ) → Type 0) → Option (List ℕ) → Option Loaded → Type 0
@@ -164,7 +169,7 @@ HasDue Knows _ _ = ⊤
 abbrev pub AreAll : (Machine → List (List ℕ) → Type 0) → Bool → Option (List ℕ) → LoadedByVerb → Type 0
 AreAll Knows all about (loads.List timers named is_all) = HasAllFor Knows all (map string_bytes named.now) timers
 AreAll Knows all about (loads.Show timers named count) = HasAllFor Knows all (map string_bytes named.now) timers
-AreAll Knows all about (loads.Lint files timers named is_strict) =
+AreAll Knows all about (loads.Lint files timers crontabs named is_strict) =
     HasAllLinted Knows all (map string_bytes named.now) timers
     × ((machine : Machine) (path : List (List ℕ)) → Knows machine path → AreFilesOn machine path all (map string_bytes named.now) files)
 AreAll Knows all about (loads.Between timers named from to) = HasAllFor Knows all (map string_bytes named.now) timers

@@ -1,6 +1,7 @@
 -- What `lint` prints, and its exit status.
 use Rattle.std.specs.Prelude.{◌≡◌, ◌==◌, ℕ, Bool, not, List, ◌++◌, if◌then◌else◌, length, map}
 use Rattle.std.specs.List.{flat_map}
+use Rattle.cal_crontabs.specs.declared.crontabs.Crontabs.{Crontabs}
 use Rattle.cal_load.specs.declared.files.LoadedFiles.{LoadedFiles}
 use Rattle.cal_load.specs.declared.loaded.Loaded.{Loaded}
 use Rattle.cal_machine.specs.rules.Machine.{Machine}
@@ -13,6 +14,7 @@ use Rattle.cal_unit_index.specs.declared.index.UnitIndex.{UnitIndex}
 use Rattle.cal_unit_index.specs.rules.Index.{IsIndexOf}
 use Rattle.cal_answers.specs.declared.answer.Asked.{Asked}
 use Rattle.cal_answers.specs.rules.LintCandidates.{Candidate, with_candidates}
+use Rattle.cal_answers.specs.rules.LintCrontabs.{HasCrontabs}
 use Rattle.cal_answers.specs.rules.LintFiles.{AreProblemsOfFiles}
 use Rattle.cal_answers.specs.rules.LintRows.{Listed, lint_counts, rows_of}
 use Rattle.cal_answers.specs.rules.LintService.{unguarded_problems}
@@ -31,8 +33,8 @@ abbrev pub lint_output : Asked → List Candidate → List Listed → List ℕ
 lint_output asked lacking listed =
     if asked.is_json then lint_document (rows_of (with_candidates asked.style listed lacking)) else lint_text listed
 
--- the problems of the files, followed by those that were found when the timers were loaded, and the warnings about
--- exceptions that systemd ignores
+-- the problems of the files and the crontabs (`found`), followed by those that were found when the timers were loaded,
+-- and the warnings about exceptions that systemd ignores
 abbrev pub all_problems : Asked → Machine → List (List ℕ) → Loaded → List Listed → List Listed
 all_problems asked machine path loaded found =
     with_candidates asked.style found (problems_of_timers asked.at machine path loaded)
@@ -42,14 +44,18 @@ all_problems asked machine path loaded found =
 abbrev pub has_lines : List ℕ → Bool
 has_lines err = not (length err == 0)
 
--- what is printed, besides the error lines `err`, and the exit status: both are those of the same problems
-pub record IsLint (asked : Asked) (is_strict : Bool) (machine : Machine) (path : List (List ℕ)) (files : LoadedFiles) (loaded : Loaded) (out err : List ℕ) (status : ℕ) : Type 0 where
+-- What is printed, besides the error lines `err`, and the exit status: both are those of the same problems. `own` are
+-- the problems of the files, and `found` those of the files and the crontabs.
+pub record IsLint (asked : Asked) (is_strict : Bool) (machine : Machine) (path : List (List ℕ)) (files : LoadedFiles) (loaded : Loaded) (crontabs : Crontabs) (out err : List ℕ) (status : ℕ) : Type 0 where
+  pub own : List Listed
+  pub of_files : AreProblemsOfFiles asked.style files.files.items own
   pub found : List Listed
-  pub of_files : AreProblemsOfFiles asked.style files.files.items found
-  pub prints : out ≡ lint_output asked (unread machine path files loaded) (all_problems asked machine path loaded found)
+  pub of_crontabs : HasCrontabs asked.style crontabs.crontabs.items own found
+  pub prints : out ≡ lint_output asked (unread machine path files loaded crontabs) (all_problems asked machine path loaded found)
   pub ends : status ≡ lint_status is_strict (lint_counts (all_problems asked machine path loaded found)) (has_lines err)
 
 -- `index` is the index of a search path on a machine; what is printed is true of each such machine and search path
-abbrev pub IsLintBy : Asked → Bool → UnitIndex → LoadedFiles → Loaded → List ℕ → List ℕ → ℕ → Type 0
-IsLintBy asked is_strict index files loaded out err status =
-    (machine : Machine) (path : List (List ℕ)) → IsIndexOf machine path index → IsLint asked is_strict machine path files loaded out err status
+abbrev pub IsLintBy : Asked → Bool → UnitIndex → LoadedFiles → Loaded → Crontabs → List ℕ → List ℕ → ℕ → Type 0
+IsLintBy asked is_strict index files loaded crontabs out err status =
+    (machine : Machine) (path : List (List ℕ)) → IsIndexOf machine path index
+    → IsLint asked is_strict machine path files loaded crontabs out err status

@@ -3,6 +3,7 @@ use Rattle.std.specs.Prelude.{ℕ, ◌==◌, List, [], ◌∷◌, ◌++◌, Opti
 use Rattle.std.specs.List.{flat_map}
 use Rattle.std.specs.Option.{unwrap_or}
 use Rattle.cal_lint.specs.declared.problems.ProblemKind.TheVariants.{Error, Warning}
+use Rattle.cal_crontabs.specs.declared.crontabs.Crontabs.{Crontabs}
 use Rattle.cal_load.specs.declared.calendar.IgnoredLine.{IgnoredLine}
 use Rattle.cal_load.specs.declared.files.LoadedFiles.{LoadedFiles}
 use Rattle.cal_load.specs.declared.ignored.IgnoredSetting.{IgnoredSetting}
@@ -27,7 +28,7 @@ use Rattle.cal_tasks.specs.rules.LoadedElapses.{lists_of_loaded, setting_for}
 use Rattle.cal_timers_text.specs.rules.ErrorLines.{place_of, reason_words, unread_words}
 use Rattle.cal_timers_text.specs.rules.Messages.{broken_drop_in_message, broken_file_message, idle_message, ignored_setting_message, invalid_message, missing_unit_message, nothing_to_do, zone_message}
 use Rattle.cal_unit_index.specs.rules.Files.{shown_unit_text}
-use Rattle.cal_unit_index.specs.rules.Index.{Fault, unreadable_in}
+use Rattle.cal_unit_index.specs.rules.Index.{Fault, shown_fault, unreadable_in}
 use Rattle.cal_answers.specs.declared.candidates.Unless.{Unless}
 use Rattle.cal_answers.specs.declared.candidates.Unless.TheVariants.{Same, ErrorInLine, ProblemInLine}
 use Rattle.cal_answers.specs.rules.LintCandidates.{Candidate, error_about, in_line}
@@ -156,8 +157,10 @@ unread_errors found = flat_map unread_error found
 abbrev pub path_words : Fault → Option (List ℕ × List ℕ)
 path_words fault = Some (fault.path, reason_words fault.reason)
 
--- an error about everything that can't be found or read: targets, and parts of the search path
-abbrev pub unread : Machine → List (List ℕ) → LoadedFiles → Loaded → List Candidate
-unread machine path files loaded =
+-- an error about everything that can't be found or read: targets, among them crontabs, and parts of the search path
+abbrev pub unread : Machine → List (List ℕ) → LoadedFiles → Loaded → Crontabs → List Candidate
+unread machine path files loaded crontabs =
     unread_errors (map unread_words files.faults.items)
-    ++ (unread_errors (map unread_words loaded.faults.items) ++ unread_errors (map path_words (unreadable_in machine path)))
+    ++ (unread_errors (map unread_words loaded.faults.items)
+    ++ (unread_errors (map path_words (map shown_fault crontabs.faults.items))
+    ++ unread_errors (map path_words (unreadable_in machine path))))

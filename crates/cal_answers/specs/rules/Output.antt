@@ -282,18 +282,18 @@ IsListAnswer asked named is_all loaded printed =
 abbrev pub IsShowAnswer : Asked → ℕ → Loaded → Printed → Type 0
 IsShowAnswer asked count loaded printed = IsShowOutput asked count loaded printed.out × HasLoadedLines loaded printed
 
--- the problems of the files and the timers, with the error lines about what can't be read; `index` is the index of the
--- search path
-abbrev pub IsLintAnswer : Asked → Bool → UnitIndex → LoadedFiles → Loaded → Printed → Type 0
-IsLintAnswer asked is_strict index files timers printed =
-    IsLintBy asked is_strict index files timers printed.out printed.err printed.status
-    × (printed.err ≡ lint_lines files.faults.items timers.faults.items)
+-- the problems of the files, the crontabs and the timers, with the error lines about what can't be read; `index` is the
+-- index of the search path
+abbrev pub IsLintAnswer : Asked → Bool → UnitIndex → LoadedFiles → Loaded → Crontabs → Printed → Type 0
+IsLintAnswer asked is_strict index files timers crontabs printed =
+    IsLintBy asked is_strict index files timers crontabs printed.out printed.err printed.status
+    × (printed.err ≡ lint_lines files.faults.items timers.faults.items crontabs.faults.items)
 
 -- what a verb answers for what was loaded
 abbrev pub IsVerbAnswer : Asked → UnitIndex → LoadedByVerb → Printed → Type 0
 IsVerbAnswer asked index (loads.List timers named is_all) printed = IsListAnswer asked named.now is_all timers printed
 IsVerbAnswer asked index (loads.Show timers named count) printed = IsShowAnswer asked count timers printed
-IsVerbAnswer asked index (loads.Lint files timers named is_strict) printed = IsLintAnswer asked is_strict index files timers printed
+IsVerbAnswer asked index (loads.Lint files timers crontabs named is_strict) printed = IsLintAnswer asked is_strict index files timers crontabs printed
 IsVerbAnswer asked index (loads.Between timers named from to) printed = IsBetweenAnswer asked timers from.now to.now printed
 IsVerbAnswer asked index (loads.Same first one second other) printed = IsSameAnswer asked one.now other.now first second printed
 IsVerbAnswer asked index (loads.Next timers expressions count) printed = IsShowAnswer asked count timers printed

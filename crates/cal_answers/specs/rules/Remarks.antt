@@ -4,6 +4,8 @@ use Rattle.std.specs.Prelude.{◌++◌, ◌==◌, ◌&&◌, ◌||◌, ℕ, Bool,
 use Rattle.std.specs.List.{ends_with, flat_map, list_any}
 use Rattle.std.specs.Option.{option_and_then}
 use Rattle.std.specs.Str.{bytes_eq}
+use Rattle.cal_crontabs.specs.declared.crontabs.Crontabs.{Crontabs}
+use Rattle.cal_load.specs.declared.files.LoadedFiles.{LoadedFiles}
 use Rattle.cal_load.specs.declared.loaded.Loaded.{Loaded}
 use Rattle.cal_load.specs.declared.target_fault.TargetFault.{TargetFault}
 use Rattle.cal_timers_command.specs.declared.verb.Verb.{Verb}
@@ -47,11 +49,17 @@ verb_hint loaded = hint_about (unknown_name loaded)
 abbrev pub is_empty : Loaded → Bool
 is_empty loaded = length loaded.timers.items == 0 && (length loaded.masked.items == 0 && length loaded.faults.items == 0)
 
--- whether loading found no timer, no file, no masked unit and no error; `same`, `next`, `due` and `cron` take no folders
+-- whether `lint` found no file, no crontab, no timer, no masked unit and no error
+abbrev pub is_empty_lint : LoadedFiles → Loaded → Crontabs → Bool
+is_empty_lint files timers crontabs =
+    length files.files.items == 0 && (length files.faults.items == 0
+    && (length crontabs.crontabs.items == 0 && (length crontabs.faults.items == 0 && is_empty timers)))
+
+-- whether loading found no timer, no file, no crontab, no masked unit and no error; `same`, `next`, `due` and `cron` take no folders
 abbrev pub is_nothing : LoadedByVerb → Bool
 is_nothing (loads.List timers named is_all) = is_empty timers
 is_nothing (loads.Show timers named count) = is_empty timers
-is_nothing (loads.Lint files timers named is_strict) = length files.files.items == 0 && (length files.faults.items == 0 && is_empty timers)
+is_nothing (loads.Lint files timers crontabs named is_strict) = is_empty_lint files timers crontabs
 is_nothing (loads.Between timers named from to) = is_empty timers
 is_nothing (loads.Same first one second other) = false
 is_nothing (loads.Next timers expressions count) = false
@@ -62,7 +70,7 @@ is_nothing (loads.Cron crontabs named) = false
 abbrev pub named_in : LoadedByVerb → List (List ℕ)
 named_in (loads.List timers named is_all) = map string_bytes named.now
 named_in (loads.Show timers named count) = map string_bytes named.now
-named_in (loads.Lint files timers named is_strict) = map string_bytes named.now
+named_in (loads.Lint files timers crontabs named is_strict) = map string_bytes named.now
 named_in (loads.Between timers named from to) = map string_bytes named.now
 named_in (loads.Same first one second other) = []
 named_in (loads.Next timers expressions count) = []
@@ -92,7 +100,7 @@ is_assumed clocks.Assumed = true
 is_assumed _ = false
 
 abbrev pub shows_no_times : LoadedByVerb → Bool
-shows_no_times (loads.Lint files timers named is_strict) = true
+shows_no_times (loads.Lint files timers crontabs named is_strict) = true
 shows_no_times (loads.Cron crontabs named) = true
 shows_no_times _ = false
 

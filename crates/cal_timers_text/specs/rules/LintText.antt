@@ -149,3 +149,8 @@ finding_lines style path text finding =
     finding_place path finding.line finding.column
     ++ (kind_text style finding.kind
     ++ (finding_message finding.problem finding.mistake ++ (codes "\n" ++ excerpt text finding)))
+
+-- the line about a problem in a file whose lines aren't shown: the place and the message
+unfoldable pub placed_line : Style → List ℕ → ℕ → ℕ → ProblemKind → List ℕ → List ℕ
+placed_line style file line column kind message =
+    finding_place file line column ++ (kind_text style kind ++ (message ++ codes "\n"))
