@@ -160,7 +160,7 @@ fn with_zones<T: Tree>(
     ensures grows { (machine : Machine) → T.shows tree.new machine → T.shows tree.old machine }
 {
     match load_named_zones(alloc, tree, lines.as_slice()) {
-        Ok(zones) => only_timer(alloc, join_with_commas(alloc, expressions)?, lines, zones),
+        Ok(zones) => only_timer(alloc, expressions.join(alloc, ", ")?, lines, zones),
         Err(ZonesFault::At(zone, reason)) => only_zone_fault(alloc, lines, zone, reason),
         // Of the other errors, only the one for running out of memory can occur. The rest are about the local zone,
         // which isn't looked up here.
@@ -214,16 +214,4 @@ fn first_text(alloc: Global, lines: &[TimerLine], path: &str) -> Result<String, 
         Some(line) => String::from_str(alloc, line.text.as_str()),
         None => Ok(String::new(alloc)),
     }
-}
-
-/// Returns the name of a timer without files: its expressions, joined by a comma and a space.
-fn join_with_commas(alloc: Global, expressions: &[&str]) -> Result<String, AllocError> {
-    let mut name = String::new(alloc);
-    for expression in expressions {
-        if !name.is_empty() {
-            name.push_str(", ")?;
-        }
-        name.push_str(expression)?;
-    }
-    Ok(name)
 }

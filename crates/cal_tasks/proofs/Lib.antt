@@ -1,5 +1,6 @@
 pub mod AtInstantLemmas
 pub mod BetweenLemmas
+pub mod CrontabLemmas
 pub mod DifferenceLemmas
 pub mod DueLemmas
 pub mod IdleLemmas

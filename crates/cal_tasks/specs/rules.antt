@@ -4,6 +4,7 @@ pub mod BetweenReport
 pub mod ClockNotes
 pub mod Difference
 pub mod DueRun
+pub mod FromCrontab
 pub mod IdleLines
 pub mod LastElapse
 pub mod ListLaw

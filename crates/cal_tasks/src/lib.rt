@@ -11,6 +11,7 @@ mod clocked;
 mod difference;
 mod due;
 mod elapses;
+mod from_crontab;
 mod idle;
 mod kept_notes;
 mod list_report;

@@ -5,13 +5,12 @@ ghost use Rattle.std.specs.Prelude.{◌≡◌, IfOk, map, string_bytes};
 ghost use Rattle.std.specs.List.{list_any};
 ghost use Rattle.std.specs.Str.{bytes_eq};
 ghost use Rattle.cal_timers_report.specs.rules.ReportView.{comparison_seen};
-ghost use Rattle.cal_timer.specs.rules.TimerView.{shown};
-ghost use Rattle.cal_tasks.specs.rules.SameReport.{comparison_of, is_own_expression, read_as, settings_only};
+ghost use Rattle.cal_tasks.specs.rules.SameReport.{comparison_of, read_as, settings_only};
 
 use crate::clocked::Clocked;
+use crate::from_crontab::{expression_texts, is_from_crontab};
 use crate::several::difference_of;
 use cal_load::LoadedTimer;
-use cal_timer::TimerLine;
 use cal_timers_report::{Comparison, Side};
 use std::alloc::{AllocError, Global};
 
@@ -53,34 +52,11 @@ pub fn compare<'a>(
 fn read_as(alloc: Global, timer: &LoadedTimer) -> Result<Vec<&str>, AllocError>
     ensures { IfOk result (λ texts. map (λ text. text.now) texts.items ≡ read_as timer.now) }
 {
-    if timer.files.texts.is_empty() && !is_own_expression(timer) {
-        texts_of(alloc, timer.lines())
+    if is_from_crontab(alloc, timer)? {
+        expression_texts(alloc, timer)
     } else {
         Ok(Vec::new(alloc))
     }
-}
-
-/// Returns whether one of the timer's expressions has the timer's name as its text.
-fn is_own_expression(timer: &LoadedTimer) -> bool
-    ensures { result ≡ is_own_expression timer.now }
-{
-    has_text(timer.lines(), timer.name.as_str())
-}
-
-fn has_text(lines: &[TimerLine], text: &str) -> bool
-    ensures { result ≡ list_any (λ entry. bytes_eq entry.text text.now) (map shown lines.now) }
-{
-    lines.iter().any(|line| line.text.as_str() == text)
-}
-
-fn texts_of(alloc: Global, lines: &[TimerLine]) -> Result<Vec<&str>, AllocError>
-    ensures { IfOk result (λ texts. map (λ text. text.now) texts.items ≡ map (λ entry. entry.text) (map shown lines.now)) }
-{
-    let mut texts = Vec::new(alloc);
-    for line in lines {
-        texts.push(line.text.as_str())?;
-    }
-    Ok(texts)
 }
 
 /// Returns the settings that `one` has and `other` doesn't.

@@ -1,11 +1,11 @@
 //! The report of `show` and `next`: a timer in detail.
 
-ghost use Rattle.std.specs.Prelude.{◌≡◌, ◌++◌, IfOk, map, string_bytes};
+ghost use Rattle.std.specs.Prelude.{◌≡◌, ◌++◌, IfOk, OnOk, map, string_bytes};
 ghost use Rattle.std.specs.List.{AllZip};
 ghost use Rattle.cal_load.specs.rules.CalendarZones.{expressions_in};
 ghost use Rattle.cal_timer.specs.rules.TimerView.{shown};
 ghost use Rattle.cal_timers_report.specs.rules.ReportView.{clock_time_seen, line_seen, place_seen, timer_seen};
-ghost use Rattle.cal_tasks.specs.rules.Notes.{exceptions_note};
+ghost use Rattle.cal_tasks.specs.rules.Notes.{cron_note, exceptions_note};
 ghost use Rattle.cal_tasks.specs.rules.ShowReport.{IsPlaceOf, IsShownLine, IsShownTimer, clock_time, is_skipped};
 ghost use Rattle.cal_tasks.specs.rules.Unguarded.{unguarded_seen};
 ghost use Rattle.std.specs.Option.{option_map};
@@ -13,7 +13,8 @@ ghost use Rattle.std.specs.Option.{option_map};
 use crate::clock_note::{ClockChange, ClockNote};
 use crate::clocked::Clocked;
 use crate::elapses::first_elapses;
-use crate::notes::{push_all, push_exceptions_note};
+use crate::from_crontab::is_from_crontab;
+use crate::notes::{push_all, push_exceptions_note, push_if};
 use crate::past::last_elapse;
 use crate::skipped::clock_notes;
 use crate::unguarded::UnguardedTimer;
@@ -38,10 +39,11 @@ pub fn shown_timer<'a>(
     let last = last_elapse(alloc, at, timer, timer.exceptions())?;
     let notes = clock_notes(alloc, at, timer)?;
     let files = file_paths(alloc, timer)?;
-    let settings = notes_of(alloc, timer, unguarded)?;
+    let changes = notes.first.as_slice();
+    let settings = notes_of(alloc, timer, unguarded, changes)?;
     let expressions = shown_lines(alloc, timer, timer.lines())?;
     let exceptions = shown_lines(alloc, timer, timer.exceptions())?;
-    let clock = clock_times(alloc, timer, notes.first.as_slice())?;
+    let clock = clock_times(alloc, timer, changes)?;
     Ok(ShownTimer {
         unit: timer.name.as_str(),
         files,
@@ -56,19 +58,42 @@ pub fn shown_timer<'a>(
     })
 }
 
-/// Returns the notes of a timer: that systemd ignores its exceptions, and its other settings.
+/// Returns the notes of a timer: that systemd ignores its exceptions, its other settings, and that cron treats these clock
+/// changes otherwise.
 fn notes_of<'a>(
     alloc: Global,
     timer: &'a LoadedTimer,
     unguarded: &[UnguardedTimer],
+    changes: &[ClockNote],
 ) -> Result<Vec<&'a str>, AllocError>
     ensures { IfOk result (λ notes. map (λ note. note.now) notes.items
-        ≡ exceptions_note (map unguarded_seen unguarded.now) timer.now ++ map string_bytes timer.now.notes.items) }
+        ≡ exceptions_note (map unguarded_seen unguarded.now) timer.now
+        ++ (map string_bytes timer.now.notes.items ++ cron_note timer.now changes.now)) }
 {
     let mut notes: Vec<&'a str> = Vec::new(alloc);
     push_exceptions_note(&mut notes, timer, unguarded)?;
     push_all(&mut notes, timer.notes.as_slice())?;
+    push_cron_note(alloc, &mut notes, timer, changes)?;
     Ok(notes)
+}
+
+/// Appends the note that cron treats clock changes otherwise, if the timer was made of an entry of a crontab, and there
+/// are such changes.
+fn push_cron_note(
+    alloc: Global,
+    notes: &mut Vec<&str>,
+    timer: &LoadedTimer,
+    changes: &[ClockNote],
+) -> Result<(), AllocError>
+    ensures { OnOk result (map (λ note. note.now) notes.new.items
+        ≡ map (λ note. note.now) notes.old.items ++ cron_note timer.now changes.now) }
+{
+    let is_noted = is_from_crontab(alloc, timer)? && !changes.is_empty();
+    push_if(
+        notes,
+        is_noted,
+        "cron has rules of its own for clock changes: cron(8)",
+    )
 }
 
 /// Returns the paths of a timer's files.

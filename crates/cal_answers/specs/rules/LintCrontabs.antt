@@ -1,5 +1,5 @@
 -- The problems of crontabs that `lint` lists, each once.
-use Rattle.std.specs.Prelude.{◌≡◌, ℕ, if◌then◌else◌, List, [], ◌∷◌, ◌++◌, Option, None, Some, Result, map}
+use Rattle.std.specs.Prelude.{◌≡◌, ℕ, if◌then◌else◌, List, [], ◌∷◌, ◌++◌, None, Some, Result, map}
 use Rattle.std.specs.List.{flat_map}
 use Rattle.cal_cron.specs.declared.cron_fault.CronFault.{CronFault}
 use Rattle.cal_cron.specs.rules.CronMatch.{CronExprs}

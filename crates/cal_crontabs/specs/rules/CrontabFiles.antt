@@ -1,6 +1,6 @@
 -- Which files are crontabs: those that cron reads (cron(8), Debian's cron), and others by their content, which is this
 -- project's own rule.
-use Rattle.std.specs.Prelude.{◌≡◌, ◌==◌, ◌||◌, ◌&&◌, not, ℕ, nat_eq, Bool, true, false, List, [], ◌∷◌, Option, None, Some, Result, codes, is_some, length, map}
+use Rattle.std.specs.Prelude.{◌≡◌, ◌==◌, ◌||◌, ◌&&◌, not, ℕ, nat_eq, Bool, false, List, [], ◌∷◌, Option, None, Some, Result, codes, is_some, length, map}
 use Rattle.std.specs.List.{ends_with, flat_map, list_any}
 use Rattle.std.specs.Str.{bytes_eq}
 use Rattle.std.specs.Str.Lossy.{utf8_lossy}

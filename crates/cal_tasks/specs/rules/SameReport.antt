@@ -1,12 +1,12 @@
 -- The report of `same`: what only one of two timers has (systemd.timer(5), Options).
-use Rattle.std.specs.Prelude.{◌==◌, ◌&&◌, ℕ, Bool, not, if◌then◌else◌, List, [], filter, length, map, string_bytes}
+use Rattle.std.specs.Prelude.{ℕ, not, if◌then◌else◌, List, [], filter, map, string_bytes}
 use Rattle.std.specs.List.{list_any}
 use Rattle.std.specs.Str.{bytes_eq}
 use Rattle.cal_load.specs.declared.loaded.LoadedTimer.{LoadedTimer}
-use Rattle.cal_load.specs.rules.CalendarZones.{expressions_in}
 use Rattle.cal_timers_report.specs.rules.ReportView.{ComparisonView, SideView}
 use Rattle.cal_tasks.specs.declared.clocked.Clocked.{Clocked}
 use Rattle.cal_tasks.specs.rules.Difference.{first_only_in}
+use Rattle.cal_tasks.specs.rules.FromCrontab.{expression_texts, is_from_crontab}
 use Rattle.cal_tasks.specs.rules.LoadedElapses.{elapses_in}
 
 -- the settings that `one` has and `other` doesn't
@@ -14,15 +14,9 @@ abbrev pub settings_only : LoadedTimer → LoadedTimer → List (List ℕ)
 settings_only one other =
     filter (λ setting. not (list_any (bytes_eq setting) (map string_bytes other.notes.items))) (map string_bytes one.notes.items)
 
--- whether one of the timer's expressions has the timer's name as its text
-abbrev pub is_own_expression : LoadedTimer → Bool
-is_own_expression timer = list_any (λ entry. bytes_eq entry.text (string_bytes timer.name)) (expressions_in timer.calendar)
-
--- the expressions of a timer that was made of an entry of a crontab: it has no files, and its name is the entry
+-- the expressions of a timer that was made of an entry of a crontab
 abbrev pub read_as : LoadedTimer → List (List ℕ)
-read_as timer =
-    if length timer.files.texts.items == 0 && not (is_own_expression timer)
-    then map (λ entry. entry.text) (expressions_in timer.calendar) else []
+read_as timer = if is_from_crontab timer then expression_texts timer else []
 
 -- the first instant after the present at which only `one` elapses, and the settings that only `one` has
 abbrev pub side_of : Clocked → LoadedTimer → LoadedTimer → SideView

@@ -17,7 +17,7 @@ use Rattle.cal_tasks.specs.declared.clocked.Clocked.{Clocked}
 use Rattle.cal_tasks.specs.rules.ClockNotes.{AreNotesOf, IsNoteAmong, by_local, limit_if, max_notes}
 use Rattle.cal_tasks.specs.rules.LastElapse.{IsLastOf, timed_exceptions}
 use Rattle.cal_tasks.specs.rules.LoadedElapses.{elapses_in, setting_for}
-use Rattle.cal_tasks.specs.rules.Notes.{exceptions_note}
+use Rattle.cal_tasks.specs.rules.Notes.{cron_note, exceptions_note}
 use Rattle.cal_tasks.specs.rules.Unguarded.{UnguardedView}
 
 -- where the line with this continued number is; None if no file has it, or if its number in the file needs over 32 bits
@@ -55,18 +55,18 @@ pub record AreFirstNotes (at : Clocked) (timer : LoadedTimer) (has_more : Bool) 
   pub few : length notes ≤ max_notes
   pub sorted : IsSorted by_local notes
 
--- The report of a timer: its files, its expressions and exceptions, the note about its exceptions and its other
--- settings, these warnings, its last elapse up to the present, its first `count` elapses after the present, and the
+-- The report of a timer: its files, its expressions and exceptions, the notes about its exceptions and about cron, its
+-- other settings, these warnings, its last elapse up to the present, its first `count` elapses after the present, and the
 -- local times that the next clock changes skip or repeat. systemd ignores the exceptions of the `unguarded` timers.
 pub record IsShownTimer (at : Clocked) (count : ℕ) (warnings : List (List ℕ)) (unguarded : List UnguardedView) (timer : LoadedTimer) (view : TimerView) : Type 0 where
   pub unit : view.unit ≡ string_bytes timer.name
   pub files : view.files ≡ map (λ file. string_bytes file.path) timer.files.texts.items
   pub expressions : AllZip (IsShownLine timer) (expressions_in timer.calendar) view.expressions
   pub exceptions : AllZip (IsShownLine timer) (exceptions_in timer.calendar) view.exceptions
-  pub notes : view.notes ≡ exceptions_note unguarded timer ++ map string_bytes timer.notes.items
   pub warned : view.warnings ≡ warnings
   pub last : IsLastOf at timer (timed_exceptions at timer) view.last
   pub elapses : view.elapses ≡ take count (elapses_in at at.now.secs timer)
   pub changes : List ClockNote
   pub noted : AreFirstNotes at timer view.has_more_clock changes
+  pub notes : view.notes ≡ exceptions_note unguarded timer ++ (map string_bytes timer.notes.items ++ cron_note timer changes)
   pub clock : view.clock ≡ map (clock_time (expressions_in timer.calendar)) changes

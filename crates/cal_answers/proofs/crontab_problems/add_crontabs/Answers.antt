@@ -1,6 +1,5 @@
 use Rattle.std.proofs.Common.{◌∙◌, ap, map}
 use Rattle.cal_cron.specs.computed.Translation.{exprs_in}
-use Rattle.cal_crontabs.specs.rules.Crontabs.{shown_crontab}
 use Rattle.cal_crontabs.specs.rules.Findings.{finding_seen}
 use Rattle.cal_answers.proofs.LintOutputLemmas.{crontabs_listed}
 use Rattle.cal_answers.proofs.crontab_problems.add_crontabs.Goals as goal

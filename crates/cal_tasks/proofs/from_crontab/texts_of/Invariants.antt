@@ -1,6 +1,6 @@
 use Rattle.std.proofs.Common.{◌≡◌, map, take}
 use Rattle.cal_timer.specs.rules.TimerView.{shown}
-use Rattle.cal_tasks.proofs.same_report.texts_of.Given as goal
+use Rattle.cal_tasks.proofs.from_crontab.texts_of.Given as goal
 
 -- the texts so far are those of the lines before the loop's index
 abbrev pub invariant-loop-line : goal.invariant-loop-line
