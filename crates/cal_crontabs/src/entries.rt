@@ -6,7 +6,7 @@ ghost use Rattle.std.specs.Option.{option_copied, option_map};
 ghost use Rattle.cal_cron.specs.computed.CrontabViews.{content_shown, entry_shown, line_shown, time_shown};
 ghost use Rattle.cal_cron.specs.computed.Translation.{exprs_in};
 ghost use Rattle.cal_crontabs.specs.rules.Crontabs.{shown_crontab};
-ghost use Rattle.cal_crontabs.specs.rules.Entries.{calendar_setting, entries_at, entries_in, entries_of, entry_seen, entry_view, file_of, settings_of, zone_after};
+ghost use Rattle.cal_crontabs.specs.rules.Entries.{calendar_setting, entries_at, entries_in, entries_of, entry_seen, entry_view, expressions_of, file_of, settings_of, zone_after};
 ghost use Rattle.cal_crontabs.specs.rules.ErrorLines.{error_lines_at, error_lines_in, error_lines_of};
 
 use crate::crontabs::Crontab;
@@ -32,6 +32,8 @@ pub struct CronEntry<'t> {
     pub command: &'t str,
     /// The input of the command, as it is written.
     pub input: Option<&'t str>,
+    /// The expressions in normal form, of which one elapses when cron runs the command. None for `@reboot`.
+    pub expressions: Vec<String>,
     /// The settings, each as `KEY=VALUE`: `OnCalendar=` once or twice, or `OnBootSec=0` for `@reboot`.
     pub settings: Vec<String>,
     pub notes: Vec<String>,
@@ -157,6 +159,7 @@ fn entry_at<'t>(
         user: entry.user,
         command: entry.command,
         input: entry.input,
+        expressions: expressions_of(alloc, &entry.time)?,
         settings: settings_of(alloc, &entry.time)?,
         notes: notes_of(alloc, zone, entry)?,
     })
@@ -168,6 +171,16 @@ fn file_of(crontab: &Crontab) -> Option<&str>
     match crontab.format {
         CrontabFormat::Argument => None,
         CrontabFormat::User | CrontabFormat::System => Some(crontab.name.as_str()),
+    }
+}
+
+/// Returns the expressions that elapse when cron runs an entry.
+fn expressions_of(alloc: Global, time: &EntryTime) -> Result<Vec<String>, AllocError>
+    ensures { IfOk result (λ texts. map string_bytes texts.items ≡ expressions_of (time_shown time.now)) }
+{
+    match time {
+        EntryTime::Reboot => Ok(Vec::new(alloc)),
+        EntryTime::Times(exprs) => exprs.texts(alloc),
     }
 }
 

@@ -7,7 +7,7 @@ use Rattle.cal_cron.specs.declared.cron_fault.CronFault.{CronFault}
 use Rattle.cal_cron.specs.declared.crontab.CrontabFormat.{CrontabFormat}
 use Rattle.cal_cron.specs.declared.crontab.CrontabFormat.TheVariants.{Argument}
 use Rattle.cal_cron.specs.rules.CronLine.{IsLine, Schedule}
-use Rattle.cal_cron.specs.rules.CronMatch.{CronExprs, RunsAs}
+use Rattle.cal_cron.specs.rules.CronMatch.{CronExprs, RunsAs, expression_texts}
 use Rattle.cal_cron.specs.rules.CrontabLines.{Assignment, Content, Entry, Line, Assigns, Runs, Invalid, crontab_lines}
 use Rattle.cal_spec.specs.rules.ExprText.{expr_text}
 use Rattle.cal_spec.specs.rules.Fields.{Fields}
@@ -15,7 +15,8 @@ use Rattle.cal_crontabs.specs.declared.entries.CronEntry.{CronEntry}
 use Rattle.cal_crontabs.specs.rules.Crontabs.{Crontab}
 
 -- an entry as it is reported: the path of its crontab, unless it is given as an argument; the number of the line; the
--- line; the user, the command and its input; the settings, each as `KEY=VALUE`; and the notes
+-- line; the user, the command and its input; the expressions, none for `@reboot`; the settings, each as `KEY=VALUE`; and
+-- the notes
 pub record EntryView : Type 0 where
   pub file : Option (List ℕ)
   pub line : ℕ
@@ -23,6 +24,7 @@ pub record EntryView : Type 0 where
   pub user : Option (List ℕ)
   pub command : List ℕ
   pub input : Option (List ℕ)
+  pub expressions : List (List ℕ)
   pub settings : List (List ℕ)
   pub notes : List (List ℕ)
 
@@ -34,6 +36,7 @@ entry_seen entry = record {
   user = option_map (λ user. user.now) entry.user;
   command = entry.command.now;
   input = option_map (λ input. input.now) entry.input;
+  expressions = map string_bytes entry.expressions.items;
   settings = map string_bytes entry.settings.items;
   notes = map string_bytes entry.notes.items;
 }
@@ -46,7 +49,12 @@ pub record ReadsTimes (read : List ℕ → Result CronExprs CronFault) : Type 0 
   pub runs : (text : List ℕ) (exprs : CronExprs) → read text ≡ Ok exprs → RunsAs text exprs.first exprs.other
   pub all : (text : List ℕ) (schedule : Schedule) → IsLine text schedule → (exprs : CronExprs) × (read text ≡ Ok exprs)
 
--- ## Settings
+-- ## Expressions and settings
+
+-- the expressions that elapse when cron runs an entry with these time fields; none for `@reboot`
+abbrev pub expressions_of : Option CronExprs → List (List ℕ)
+expressions_of None = []
+expressions_of (Some exprs) = expression_texts exprs
 
 abbrev pub calendar_setting : Fields → List ℕ
 calendar_setting fields = codes "OnCalendar=" ++ expr_text fields
@@ -104,6 +112,7 @@ entry_view crontab cron_tz number text entry = record {
   user = entry.user;
   command = entry.command;
   input = entry.input;
+  expressions = expressions_of entry.time;
   settings = settings_of entry.time;
   notes = notes_of cron_tz entry;
 }
