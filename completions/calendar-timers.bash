@@ -126,7 +126,7 @@ _calendar_timers() {
     same | due) options='--zone= --utc --in= --now= --root= --user --json --help' ;;
     cron) options='--root= --json --help' ;;
     help) ;;
-    *) options='--all --zone= --utc --in= --now= --root= --user --json --help' ;;
+    *) options='--all --cron --zone= --utc --in= --now= --root= --user --json --help' ;;
     esac
     [ -n "$verb" ] || options="$options --version"
     case $option$ended,$whole in

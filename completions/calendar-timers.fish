@@ -105,6 +105,7 @@ complete -c calendar-timers -n '__calendar_timers_verb_is none list show lint be
     -d 'look for the units of the user, not of the system'
 complete -c calendar-timers -n '__calendar_timers_verb_is none list lint between' -s a -l all \
     -d 'also take timers that no other unit starts'
+complete -c calendar-timers -n '__calendar_timers_verb_is none list between' -l cron -d 'also take the entries of crontabs'
 complete -c calendar-timers -n '__calendar_timers_verb_is lint' -l strict -d 'exit with status 1 for warnings, too'
 complete -c calendar-timers -n '__calendar_timers_verb_is show next' -s n -l count -x \
     -d 'show at most N elapses, 1 to 1000000'

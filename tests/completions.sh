@@ -115,8 +115,8 @@ calendar-timers_show_ -> a@1.timer list.timer logrotate.timer units
 calendar-timers_show_./ -> ./backup.timer ./units
 calendar-timers_lint_units/ -> units/clean.timer
 calendar-timers_logrotate_li -> list.timer
-calendar-timers_-- -> --all --zone= --utc --in= --now= --root= --user --json --help --version
-calendar-timers_list_-- -> --all --zone= --utc --in= --now= --root= --user --json --help
+calendar-timers_-- -> --all --cron --zone= --utc --in= --now= --root= --user --json --help --version
+calendar-timers_list_-- -> --all --cron --zone= --utc --in= --now= --root= --user --json --help
 calendar-timers_lint_-- -> --all --strict --zone= --utc --now= --root= --user --json --help
 calendar-timers_-n_3_show_-- -> --count= --zone= --utc --in= --now= --root= --user --json --help
 calendar-timers_next_-- -> --count= --zone= --utc --in= --now= --root= --json --help
@@ -161,8 +161,8 @@ calendar-timers_help_show_l ->
 calendar-timers_show_l -> list.timer logrotate.timer
 calendar-timers_lint_./ba -> ./backup.timer
 calendar-timers_logrotate_li -> list.timer
-calendar-timers_-- -> --all --zone --utc --in --now --root --user --json --help --version
-calendar-timers_list_-- -> --all --zone --utc --in --now --root --user --json --help
+calendar-timers_-- -> --all --cron --zone --utc --in --now --root --user --json --help --version
+calendar-timers_list_-- -> --all --cron --zone --utc --in --now --root --user --json --help
 calendar-timers_lint_-- -> --all --strict --zone --utc --now --root --user --json --help
 calendar-timers_show_-- -> --count --zone --utc --in --now --root --user --json --help
 calendar-timers_next_-- -> --count --zone --utc --in --now --root --json --help
@@ -196,8 +196,8 @@ calendar-timers_help_show_l ->
 calendar-timers_show_l -> list.timer logrotate.timer
 calendar-timers_lint_./ba -> backup.timer
 calendar-timers_logrotate_li -> list.timer
-calendar-timers_-- -> --all --zone --utc --in --now --root --user --json --help --version
-calendar-timers_list_-- -> --all --zone --utc --in --now --root --user --json --help
+calendar-timers_-- -> --all --cron --zone --utc --in --now --root --user --json --help --version
+calendar-timers_list_-- -> --all --cron --zone --utc --in --now --root --user --json --help
 calendar-timers_lint_-- -> --all --strict --zone --utc --now --root --user --json --help
 calendar-timers_show_-- -> --count --zone --utc --in --now --root --user --json --help
 calendar-timers_next_-- -> --count --zone --utc --in --now --root --json --help

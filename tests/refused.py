@@ -212,6 +212,8 @@ TIMERS_ROWS = [
     timers_row("entries as JSON", ["cron", ROOT, "--json", "*/7 * * * * x %y"]),
     timers_row("an invalid entry", ["cron", ROOT, "61 * * * *"], 1),
     timers_row("the crontabs of a machine", ["cron", ROOT]),
+    timers_row("timers and the crontabs of a machine", ["list", "--cron", ROOT, NOW, "./own"]),
+    timers_row("a day of timers and crontabs", ["between", "--cron", ROOT, NOW, "now", "tomorrow", "backup"]),
     timers_row("an unknown zone", ["list", ROOT, NOW, "--zone=Mars/One"], 2),
     timers_row("help for timers", ["--help"]),
     timers_row("help for a verb of timers", ["between", "--help"]),

@@ -1,5 +1,5 @@
 -- Lemmas on what is found when a question is read.
-use Rattle.std.proofs.Common.{◌≡◌, ◌∙◌, ◌==◌, ℕ, ◌+◌, ◌<◌, All, Bool, Bor, true, false, List, [], ◌∷◌, ◌++◌, Option, None, Some, ap, filter, get_or, inl, inr, length, map, refl, string_bytes, subst, sym, take, true≢false}
+use Rattle.std.proofs.Common.{◌≡◌, ◌∙◌, ◌==◌, ℕ, ◌+◌, ◌<◌, All, Bool, Bor, true, false, List, [], ◌∷◌, ◌++◌, Option, None, Some, Result, Ok, Err, IsErrAnd, ap, filter, get_or, inl, inr, length, map, refl, string_bytes, subst, sym, take, true≢false}
 use Rattle.std.proofs.lemmas.Bool.{eqb-true}
 use Rattle.std.proofs.lemmas.List.{map-append, nil_from_length, take_more}
 use Rattle.std.proofs.lemmas.List.Elements.{All-nil, filter-append}
@@ -20,6 +20,8 @@ use Rattle.cal_load.specs.rules.AllTargets.{HasAll, HasAllTargets, HasAllUnits, 
 use Rattle.cal_load.specs.rules.AllUnits.{shown_stems, started_if_all}
 use Rattle.cal_load.specs.rules.Expressions.{IsExpressionReason, IsTimerOrReason}
 use Rattle.cal_load.specs.rules.FileFaults.{AreFaultsOf}
+use Rattle.cal_answers.specs.declared.fault.ReadFault.{ReadFault}
+use Rattle.cal_answers.specs.declared.fault.ReadFault.TheVariants as faults
 use Rattle.cal_answers.specs.declared.found.Known.{Known}
 use Rattle.cal_answers.specs.declared.found.LoadedByVerb.{LoadedByVerb}
 use Rattle.cal_answers.specs.declared.found.LoadedByVerb.TheVariants as loads
@@ -155,7 +157,7 @@ due_at Knows machine path (Some name) (Some timer) knows all = all_at Knows _ ma
 
 pub loaded_at : (Knows : Machine → List (List ℕ) → Type 0) (machine : Machine) (path : List (List ℕ)) (all_units : Bool) (about : Option (List ℕ)) (loaded : LoadedByVerb) → Knows machine path
     → AreAll Knows all_units about loaded → AreAllOn machine path all_units about loaded
-loaded_at Knows machine path all_units about (loads.List timers named is_all) knows all = for_at Knows machine path all_units (map string_bytes named.now) timers knows all
+loaded_at Knows machine path all_units about (loads.List timers named is_all entries) knows all = for_at Knows machine path all_units (map string_bytes named.now) timers knows all
 loaded_at Knows machine path all_units about (loads.Show timers named count) knows all = for_at Knows machine path all_units (map string_bytes named.now) timers knows all
 loaded_at Knows machine path all_units about (loads.Lint files timers crontabs named is_strict) knows all = (
   linted_at Knows machine path all_units (map string_bytes named.now) timers knows all.0,
@@ -163,7 +165,7 @@ loaded_at Knows machine path all_units about (loads.Lint files timers crontabs n
       subst (λ other. AreFilesOn other folders all_units (map string_bytes named.now) files) (sym same.0)
       (subst (λ folders. AreFilesOn machine folders all_units (map string_bytes named.now) files) (sym same.1) (all.1 machine path knows)),
 )
-loaded_at Knows machine path all_units about (loads.Between timers named from to) knows all = for_at Knows machine path all_units (map string_bytes named.now) timers knows all
+loaded_at Knows machine path all_units about (loads.Between timers named from to entries) knows all = for_at Knows machine path all_units (map string_bytes named.now) timers knows all
 loaded_at Knows machine path all_units about (loads.Same first one second other) knows all = tt
 loaded_at Knows machine path all_units about (loads.Next timers expressions count) knows all =
     made_at (λ other. (folders : List (List ℕ)) × Knows other folders) (λ other. (folders : List (List ℕ)) × ((other ≡ machine) × (folders ≡ path)))
@@ -215,6 +217,11 @@ known_on machine command known path false about zone shown range searched (inl i
     known_with machine command known path false about zone shown range (inl searched) is same loads whole unguarded
 known_on machine command known path false about zone shown range searched (inr is) indexed same loads whole unguarded =
     known_with machine command known [] false about zone shown range (inr refl) is same loads whole unguarded
+
+-- an error that can only be a failed allocation is one
+pub only_memory : {A : Type 0} (result : Result A ReadFault) → IsErrAnd result (λ fault. fault ≡ faults.NoMemory) → result ≡ Err faults.NoMemory
+only_memory (Ok value) is = absurd is
+only_memory (Err fault) is = ap Err is
 
 -- if something is true of all machines that agree with what a recorder has read, it follows from what was read
 -- (`FollowsFromRead`)

@@ -1,4 +1,5 @@
 mod CronLemmas
+mod CrontabTimerLemmas
 mod ErrorLemmas
 pub mod FoundLemmas
 mod LintFileLemmas

@@ -1,4 +1,5 @@
 -- What the manuals and this project's own rules say. The laws and the contracts of this crate cite these definitions.
+pub mod CrontabTimers
 pub mod ErrorText
 pub mod Found
 pub mod LintCandidates

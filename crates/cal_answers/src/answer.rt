@@ -190,7 +190,8 @@ fn answer_loaded(
             timers,
             named,
             is_all,
-        } => list(alloc, asked, named, *is_all, timers),
+            entries,
+        } => list(alloc, asked, named, *is_all, timers, entries.as_ref()),
         LoadedByVerb::Show { timers, count, .. } | LoadedByVerb::Next { timers, count, .. } => {
             show(alloc, asked, *count, timers)
         }
@@ -205,8 +206,9 @@ fn answer_loaded(
             timers,
             from,
             to,
+            entries,
             ..
-        } => between(alloc, asked, timers, from, to),
+        } => between(alloc, asked, timers, entries.as_ref(), from, to),
         LoadedByVerb::Same {
             first,
             one,

@@ -1,5 +1,6 @@
 //! What is read to answer a question.
 
+use crate::crontab_timers::CrontabTimers;
 use crate::local_clock::LocalClock;
 use crate::range_zones::RangeZones;
 use cal_crontabs::Crontabs;
@@ -45,6 +46,8 @@ pub enum LoadedByVerb<'q> {
         named: &'q [String],
         /// Whether `--all` is given.
         is_all: bool,
+        /// The entries of crontabs, if `--cron` is given.
+        entries: Option<CrontabTimers>,
     },
     Show {
         timers: Loaded,
@@ -70,6 +73,8 @@ pub enum LoadedByVerb<'q> {
         from: &'q str,
         /// The text of the range's end.
         to: &'q str,
+        /// The entries of crontabs, if `--cron` is given.
+        entries: Option<CrontabTimers>,
     },
     Same {
         first: Loaded,

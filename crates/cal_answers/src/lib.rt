@@ -8,6 +8,7 @@ mod candidates;
 mod compare;
 mod cron;
 mod crontab_problems;
+mod crontab_timers;
 mod due;
 mod fault;
 mod found;

@@ -10,6 +10,7 @@ ghost use Rattle.cal_load.specs.rules.Loaded.{IsStoredOn, IsTimerOn};
 ghost use Rattle.cal_answers.specs.rules.Found.{AreAll, AreFilesOn, AreLintedOn, AreLoadedOn, AreMadeOf, AreTimersOn, HasAllFor, HasAllLinted, HasDue, HasUnits, IsDueOn, IsLoadedFor, IsSideOn, asks_all, is_entry_reason, is_invalid_entry};
 ghost use Rattle.cal_answers.specs.rules.LintTargets.{AreFilesOf, crontab_targets, other_targets};
 
+use crate::crontab_timers::load_crontab_timers;
 use crate::found::LoadedByVerb;
 use cal_crontabs::{
     Crontabs, is_crontab, is_path_start, load_crontab_files, load_crontabs, times_are_read,
@@ -21,7 +22,7 @@ use cal_unit_index::UnitIndex;
 use std::alloc::{AllocError, Global};
 
 /// Loads what a question names. If `list`, `lint` or `between` names no timers, loads the timers that other units start
-/// or, with `--all`, all timers in the search path. `index` is the index of the search path, and `about` is the timer
+/// or, with `--all`, all timers in the search path. With `--cron`, the entries of crontabs are loaded, too. `index` is the index of the search path, and `about` is the timer
 /// that `due` is about.
 pub(crate) fn load_by_verb<'q, T: Tree>(
     alloc: Global,
@@ -38,11 +39,19 @@ pub(crate) fn load_by_verb<'q, T: Tree>(
     ensures grows { (machine : Machine) → T.shows tree.new machine → T.shows tree.old machine }
 {
     match question {
-        Question::List { timers, is_all } => Ok(LoadedByVerb::List {
-            timers: load_named(alloc, tree, index, timers.as_slice(), *is_all)?,
-            named: timers.as_slice(),
-            is_all: *is_all,
-        }),
+        Question::List {
+            timers,
+            is_all,
+            is_cron,
+        } => {
+            let entries = load_crontab_timers(alloc, tree, *is_cron)?;
+            Ok(LoadedByVerb::List {
+                timers: load_named(alloc, tree, index, timers.as_slice(), *is_all)?,
+                named: timers.as_slice(),
+                is_all: *is_all,
+                entries,
+            })
+        }
         Question::Show { timers, count } => Ok(LoadedByVerb::Show {
             timers: load_named(alloc, tree, index, timers.as_slice(), false)?,
             named: timers.as_slice(),
@@ -53,12 +62,17 @@ pub(crate) fn load_by_verb<'q, T: Tree>(
             to,
             timers,
             is_all,
-        } => Ok(LoadedByVerb::Between {
-            timers: load_named(alloc, tree, index, timers.as_slice(), *is_all)?,
-            named: timers.as_slice(),
-            from: from.as_str(),
-            to: to.as_str(),
-        }),
+            is_cron,
+        } => {
+            let entries = load_crontab_timers(alloc, tree, *is_cron)?;
+            Ok(LoadedByVerb::Between {
+                timers: load_named(alloc, tree, index, timers.as_slice(), *is_all)?,
+                named: timers.as_slice(),
+                from: from.as_str(),
+                to: to.as_str(),
+                entries,
+            })
+        }
         Question::Lint {
             timers,
             is_all,
@@ -420,7 +434,7 @@ fn load_due<T: Tree>(
     Ok(Some(timer))
 }
 
-fn texts_of(alloc: Global, texts: &[String]) -> Result<Vec<&str>, AllocError>
+pub(crate) fn texts_of(alloc: Global, texts: &[String]) -> Result<Vec<&str>, AllocError>
     ensures { IfOk result (λ copies. map (λ text. text.now) copies.items ≡ map string_bytes texts.now) }
 {
     let mut copies = Vec::new(alloc);

@@ -85,10 +85,10 @@ options_asked rows now place shown_in root user json clash timed zoned shown roo
 
 -- ## The question of each verb
 
-pub list_asked : (rows : List Row) (timers : List Text) (all : Bool) → timers ≡ targets_in rows → all ≡ is_set (codes "all") rows
-    → question_for verbs.List rows ≡ Ok (list timers all)
+pub list_asked : (rows : List Row) (timers : List Text) (all crons : Bool) → timers ≡ targets_in rows → all ≡ is_set (codes "all") rows
+    → crons ≡ is_set (codes "cron") rows → question_for verbs.List rows ≡ Ok (list timers all crons)
 unfolding question_for
-list_asked rows timers all aimed alls = rw (aimed, alls) refl
+list_asked rows timers all crons aimed alls crontabs = rw (aimed, alls, crontabs) refl
 
 pub lint_asked : (rows : List Row) (timers : List Text) (all strict : Bool) → timers ≡ targets_in rows → all ≡ is_set (codes "all") rows
     → strict ≡ is_set (codes "strict") rows → question_for verbs.Lint rows ≡ Ok (lint timers all strict)
@@ -140,11 +140,11 @@ pub between_to : (rows : List Row) (from : Text) (fault : CommandFault) → need
 unfolding question_for
 between_to rows from fault one is = rw one (fault_then _ _ fault is)
 
-pub between_asked : (rows : List Row) (from to : Text) (timers : List Text) (all : Bool) → needed (first_of (codes "first") rows) ≡ Ok from
+pub between_asked : (rows : List Row) (from to : Text) (timers : List Text) (all crons : Bool) → needed (first_of (codes "first") rows) ≡ Ok from
     → needed (first_of (codes "second") rows) ≡ Ok to → timers ≡ targets_in rows → all ≡ is_set (codes "all") rows
-    → question_for verbs.Between rows ≡ Ok (between from to timers all)
+    → crons ≡ is_set (codes "cron") rows → question_for verbs.Between rows ≡ Ok (between from to timers all crons)
 unfolding question_for
-between_asked rows from to timers all one two aimed alls = rw (one, two, aimed, alls) refl
+between_asked rows from to timers all crons one two aimed alls crontabs = rw (one, two, aimed, alls, crontabs) refl
 
 pub same_one : (rows : List Row) (fault : CommandFault) → IsFaultIn (needed (first_of (codes "first") rows)) fault → IsFaultIn (question_for verbs.Same rows) fault
 unfolding question_for

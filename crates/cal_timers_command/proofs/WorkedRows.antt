@@ -15,7 +15,7 @@ pub count_first : verb_first count_arguments ≡ codes "next" ∷ codes "-n" ∷
 unfolding verb_first first_failing is_value_at
 count_first = refl
 
-pub none_asked : IsCommandOf [] (plain (list [] false))
+pub none_asked : IsCommandOf [] (plain (list [] false false))
 unfolding verb_first first_failing is_value_at faults_in answer_in command_found command_for question_for options_for count_value now_value zone_value text_value root_value clap_on_literals
 none_asked = (refl, refl)
 
@@ -23,11 +23,11 @@ pub show_asked : IsCommandOf show_arguments (plain (show (codes "backup" ∷ [])
 unfolding verb_first first_failing is_value_at faults_in answer_in command_found command_for question_for options_for count_value now_value zone_value text_value root_value clap_on_literals
 show_asked = (refl, refl)
 
-pub target_asked : IsCommandOf target_arguments (plain (list (codes "backup" ∷ []) false))
+pub target_asked : IsCommandOf target_arguments (plain (list (codes "backup" ∷ []) false false))
 unfolding verb_first first_failing is_value_at faults_in answer_in command_found command_for question_for options_for count_value now_value zone_value text_value root_value clap_on_literals
 target_asked = (refl, refl)
 
-pub utc_asked : IsCommandOf utc_arguments (in_utc (list [] false))
+pub utc_asked : IsCommandOf utc_arguments (in_utc (list [] false false))
 unfolding verb_first first_failing is_value_at faults_in answer_in command_found command_for question_for options_for count_value now_value zone_value text_value root_value clap_on_literals
 utc_asked = (refl, refl)
 
@@ -35,7 +35,7 @@ pub count_asked : IsCommandOf count_arguments (plain (next (codes "daily" ∷ []
 unfolding verb_first first_failing is_value_at faults_in answer_in command_found command_for question_for options_for count_value now_value zone_value text_value root_value count_in number_between clap_on_literals
 count_asked = (refl, refl)
 
-pub range_asked : IsCommandOf range_arguments (plain (between (codes "-5") (codes "now") [] false))
+pub range_asked : IsCommandOf range_arguments (plain (between (codes "-5") (codes "now") [] false false))
 unfolding verb_first first_failing is_value_at faults_in answer_in command_found command_for question_for options_for count_value now_value zone_value text_value root_value clap_on_literals
 range_asked = (refl, refl)
 

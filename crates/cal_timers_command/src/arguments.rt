@@ -98,6 +98,13 @@ pub(crate) const ALL: Argument = Argument {
     help: "Without UNIT, FILE and DIR,{n}also take timers that no other unit starts",
 };
 
+pub(crate) const CRON: Argument = Argument {
+    name: "cron",
+    form: ArgumentForm::Flag,
+    value_name: "",
+    help: "Also take the entries of crontabs",
+};
+
 pub(crate) const STRICT: Argument = Argument {
     name: "strict",
     form: ArgumentForm::Flag,
@@ -142,7 +149,7 @@ const EXPRESSIONS: Argument = Argument {
     name: TARGET,
     form: ArgumentForm::AtLeastOne,
     value_name: "EXPRESSION",
-    help: "Calendar expression, as in systemd.time(7)",
+    help: "Calendar expression (systemd.time(7)) or crontab entry",
 };
 
 const ONE_TIMER: Argument = Argument {
@@ -185,24 +192,26 @@ const ONE_SIDE: Argument = Argument {
     name: FIRST,
     form: ArgumentForm::One,
     value_name: "A",
-    help: "Unit, timer file or calendar expression",
+    help: "Unit, timer file, calendar expression or crontab entry",
 };
 
 const OTHER_SIDE: Argument = Argument {
     name: SECOND,
     form: ArgumentForm::One,
     value_name: "B",
-    help: "Unit, timer file or calendar expression",
+    help: "Unit, timer file, calendar expression or crontab entry",
 };
 
-const LIST_ARGUMENTS: [Argument; 9] = [ALL, ZONE, UTC, IN, NOW, ROOT, USER, JSON, ANY_TIMERS];
+const LIST_ARGUMENTS: [Argument; 10] = [
+    ALL, CRON, ZONE, UTC, IN, NOW, ROOT, USER, JSON, ANY_TIMERS,
+];
 
 const LINT_ARGUMENTS: [Argument; 9] = [ALL, STRICT, ZONE, UTC, NOW, ROOT, USER, JSON, ANY_TIMERS];
 
 const SHOW_ARGUMENTS: [Argument; 9] = [COUNT, ZONE, UTC, IN, NOW, ROOT, USER, JSON, TIMERS];
 
-const BETWEEN_ARGUMENTS: [Argument; 11] = [
-    FROM, TO, ALL, ZONE, UTC, IN, NOW, ROOT, USER, JSON, ANY_TIMERS,
+const BETWEEN_ARGUMENTS: [Argument; 12] = [
+    FROM, TO, ALL, CRON, ZONE, UTC, IN, NOW, ROOT, USER, JSON, ANY_TIMERS,
 ];
 
 const SAME_ARGUMENTS: [Argument; 9] = [ONE_SIDE, OTHER_SIDE, ZONE, UTC, IN, NOW, ROOT, USER, JSON];

@@ -27,12 +27,12 @@ pub fn value_options_have_values()
 /// What these arguments ask: none at all, `show backup`, `backup`, `--utc list`, `-n 3 next daily`,
 /// `between -- -5 now`, `due`, and `--utc due backup`.
 pub fn worked_arguments_are_commands()
-    ensures none { IsCommandOf [] (plain (list [] false)) }
+    ensures none { IsCommandOf [] (plain (list [] false false)) }
     ensures show { IsCommandOf show_arguments (plain (show (codes "backup" ∷ []) 5)) }
-    ensures target { IsCommandOf target_arguments (plain (list (codes "backup" ∷ []) false)) }
-    ensures utc { IsCommandOf utc_arguments (in_utc (list [] false)) }
+    ensures target { IsCommandOf target_arguments (plain (list (codes "backup" ∷ []) false false)) }
+    ensures utc { IsCommandOf utc_arguments (in_utc (list [] false false)) }
     ensures count { IsCommandOf count_arguments (plain (next (codes "daily" ∷ []) 3)) }
-    ensures range { IsCommandOf range_arguments (plain (between (codes "-5") (codes "now") [] false)) }
+    ensures range { IsCommandOf range_arguments (plain (between (codes "-5") (codes "now") [] false false)) }
     ensures due { IsCommandOf due_arguments (plain (due None)) }
     ensures due_unit { IsCommandOf due_unit_arguments (in_utc (due (Some (codes "backup")))) }
 {}

@@ -44,6 +44,7 @@ impl Command {
     /// - `--user`, for all verbs except `next`: the user's units instead of the system's.
     /// - `--all` or `-a`, for `list`, `lint` and `between`: without units, files and folders, also timers that no other
     ///   unit starts.
+    /// - `--cron`, for `list` and `between`: also the entries of the machine's crontabs.
     /// - `--strict`, for `lint`: warnings give status 1, too.
     /// - `--json`: output as JSON.
     ///

@@ -14,10 +14,12 @@ pub struct Command {
 #[derive(Debug, Drop)]
 pub enum Question {
     /// When timers elapse next. `timers` are units, files and folders. If there are none, the question is about the
-    /// units that other units start or, if `is_all` (`--all`), about all units.
+    /// units that other units start or, if `is_all` (`--all`), about all units. If `is_cron` (`--cron`), it is also about
+    /// the entries of the machine's crontabs.
     List {
         timers: Vec<String>,
         is_all: bool,
+        is_cron: bool,
     },
     /// What the files of timers say, and when the timers elapse next. `timers` are one or more units, files and
     /// folders. `count` is the maximum number of elapses, from 1 to 1,000,000: the value of `--count`, or 5 if the
@@ -34,20 +36,22 @@ pub enum Question {
         is_strict: bool,
     },
     /// All elapses of timers in a time range, which starts at `from` and ends at `to`. The form of these two times isn't
-    /// checked. `timers` and `is_all` are those of [`Question::List`].
+    /// checked. `timers`, `is_all` and `is_cron` are those of [`Question::List`].
     Between {
         from: String,
         to: String,
         timers: Vec<String>,
         is_all: bool,
+        is_cron: bool,
     },
-    /// Whether two timers elapse at the same instants. Each is a unit, a file or a calendar expression.
+    /// Whether two timers elapse at the same instants. Each is a unit, a file, a calendar expression or
+    /// an entry of a crontab.
     Same {
         one: String,
         other: String,
     },
-    /// When calendar expressions elapse next. `expressions` are one or more expressions. `count` is that of
-    /// [`Question::Show`].
+    /// When calendar expressions elapse next. `expressions` are one or more expressions and entries of crontabs. `count`
+    /// is that of [`Question::Show`].
     Next {
         expressions: Vec<String>,
         count: u32,

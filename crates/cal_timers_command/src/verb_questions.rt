@@ -7,7 +7,7 @@ ghost use Rattle.cal_timers_command.specs.rules.Asked.{IsFaultIn, needed, one_or
 ghost use Rattle.cal_timers_command.specs.rules.Questions.{HasText, IsUsageOf, no_question};
 ghost use Rattle.cal_timers_command.specs.rules.Texts.{texts_of};
 
-use crate::arguments::{ALL, FIRST, SECOND, STRICT, TARGET};
+use crate::arguments::{ALL, CRON, FIRST, SECOND, STRICT, TARGET};
 use crate::command_fault::CommandFault;
 use crate::question::Question;
 use crate::values::{count_of, is_set, value_of};
@@ -49,6 +49,7 @@ fn list_of(alloc: Global, values: &ArgMatches<'_>) -> Result<Question, CommandFa
     Ok(Question::List {
         timers,
         is_all: is_set(values, ALL.name),
+        is_cron: is_set(values, CRON.name),
     })
 }
 
@@ -85,6 +86,7 @@ fn between_of(alloc: Global, values: &ArgMatches<'_>) -> Result<Question, Comman
         to,
         timers,
         is_all: is_set(values, ALL.name),
+        is_cron: is_set(values, CRON.name),
     })
 }
 

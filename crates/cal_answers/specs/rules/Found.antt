@@ -1,6 +1,6 @@
 -- What `read_question` finds: all that the answer to a question depends on, or why the question can't be answered.
 -- `calendar-timers` calls it once per run.
-use Rattle.std.specs.Prelude.{◌≡◌, ◌⊎◌, ◌==◌, ◌&&◌, ◌||◌, ⊤, ℕ, ℤ, Bool, true, false, not, All, List, [], ◌∷◌, Option, None, Some, length, map, option_map, slice_get, string_bytes}
+use Rattle.std.specs.Prelude.{◌≡◌, ◌⊎◌, ◌==◌, ◌&&◌, ◌||◌, ⊤, ℕ, ℤ, Bool, true, false, not, All, List, [], ◌∷◌, Option, None, Some, length, map, option_map, is_some, slice_get, string_bytes}
 use Rattle.std.specs.List.{list_any}
 use Rattle.std.specs.Option.{option_map_or, option_or}
 use Rattle.cal_machine.specs.rules.Machine.{Machine}
@@ -27,6 +27,7 @@ use Rattle.cal_answers.specs.declared.found.Found as founds
 use Rattle.cal_answers.specs.declared.found.Known.{Known}
 use Rattle.cal_answers.specs.declared.found.LoadedByVerb.{LoadedByVerb}
 use Rattle.cal_answers.specs.declared.found.LoadedByVerb.TheVariants as loads
+use Rattle.cal_answers.specs.rules.CrontabTimers.{AreCrontabTimersOn}
 use Rattle.cal_answers.specs.rules.LintTargets.{AreNamedCrontabs, AreNamedFiles, HasNoneIfCrontabs}
 use Rattle.cal_answers.specs.rules.LocalClock.{IsLocalZone, clock_zone, local_zone_of, shown_zone_of}
 use Rattle.cal_answers.specs.rules.MachinePath.{machine_path}
@@ -76,11 +77,13 @@ AreLintedOn machine path targets files timers crontabs =
 
 -- the timers, the files and the crontabs that were loaded are those of the machine; `about` is the timer that `due` is about
 abbrev pub AreLoadedOn : Machine → List (List ℕ) → Option (List ℕ) → LoadedByVerb → Type 0
-AreLoadedOn machine path about (loads.List timers named is_all) = AreTimersOn machine path timers
+AreLoadedOn machine path about (loads.List timers named is_all entries) =
+    AreTimersOn machine path timers × AreCrontabTimersOn machine entries
 AreLoadedOn machine path about (loads.Show timers named count) = AreTimersOn machine path timers
 AreLoadedOn machine path about (loads.Lint files timers crontabs named is_strict) =
     AreLintedOn machine path (map string_bytes named.now) files timers crontabs
-AreLoadedOn machine path about (loads.Between timers named from to) = AreTimersOn machine path timers
+AreLoadedOn machine path about (loads.Between timers named from to entries) =
+    AreTimersOn machine path timers × AreCrontabTimersOn machine entries
 AreLoadedOn machine path about (loads.Same first one second other) =
     IsSideOn machine path one.now first × IsSideOn machine path other.now second
 AreLoadedOn machine path about (loads.Next timers expressions count) = AreMadeOf machine (map string_bytes expressions.now) timers
@@ -89,11 +92,12 @@ AreLoadedOn machine path about (loads.Cron crontabs named) = AreCrontabsOn machi
 
 -- what was loaded belongs to this question, and repeats what the answer needs of it
 abbrev pub IsLoadedFor : Question → LoadedByVerb → Type 0
-IsLoadedFor (questions.List given all) (loads.List timers named is_all) = (named.now ≡ given.items) × (is_all ≡ all)
+IsLoadedFor (questions.List given all crons) (loads.List timers named is_all entries) =
+    (named.now ≡ given.items) × (is_all ≡ all) × (is_some entries ≡ crons)
 IsLoadedFor (questions.Show given most) (loads.Show timers named count) = (named.now ≡ given.items) × (count ≡ most)
 IsLoadedFor (questions.Lint given all strict) (loads.Lint files timers crontabs named is_strict) = (named.now ≡ given.items) × (is_strict ≡ strict)
-IsLoadedFor (questions.Between start end given all) (loads.Between timers named from to) =
-    (named.now ≡ given.items) × (from.now ≡ string_bytes start) × (to.now ≡ string_bytes end)
+IsLoadedFor (questions.Between start end given all crons) (loads.Between timers named from to entries) =
+    (named.now ≡ given.items) × (from.now ≡ string_bytes start) × (to.now ≡ string_bytes end) × (is_some entries ≡ crons)
 IsLoadedFor (questions.Same a b) (loads.Same first one second other) = (one.now ≡ string_bytes a) × (other.now ≡ string_bytes b)
 IsLoadedFor (questions.Next given most) (loads.Next timers expressions count) = (expressions.now ≡ given.items) × (count ≡ most)
 IsLoadedFor (questions.Due given) (loads.Due timer named) = option_map (λ name. name.now) named ≡ option_map string_bytes given
@@ -102,10 +106,10 @@ IsLoadedFor _ _ = ⊥
 
 -- whether the question is about all units if it names no timers, and not only about those that other units start
 abbrev pub asks_all : Question → Bool
-asks_all (questions.List given all) = all
+asks_all (questions.List given all crons) = all
 asks_all (questions.Show given most) = false
 asks_all (questions.Lint given all strict) = all
-asks_all (questions.Between start end given all) = all
+asks_all (questions.Between start end given all crons) = all
 asks_all (questions.Same a b) = false
 asks_all (questions.Next given most) = false
 asks_all (questions.Due given) = false
@@ -122,10 +126,10 @@ name_units named = length named == 0 || has_name named
 -- whether a question can be about units; this is never so for `next`, which names expressions, for `cron`, which names
 -- crontabs, nor for `due` if it is about no timer
 abbrev pub needs_units : Question → Option (List ℕ) → Bool
-needs_units (questions.List given all) about = name_units (map string_bytes given.items)
+needs_units (questions.List given all crons) about = name_units (map string_bytes given.items)
 needs_units (questions.Show given most) about = name_units (map string_bytes given.items)
 needs_units (questions.Lint given all strict) about = name_units (map string_bytes given.items)
-needs_units (questions.Between start end given all) about = name_units (map string_bytes given.items)
+needs_units (questions.Between start end given all crons) about = name_units (map string_bytes given.items)
 needs_units (questions.Same a b) about = not (is_path (string_bytes a)) || not (is_path (string_bytes b))
 needs_units (questions.Next given most) about = false
 needs_units (questions.Due given) about = option_map_or (λ name. not (is_path name)) about false
@@ -167,12 +171,12 @@ HasDue Knows _ _ = ⊤
 -- for `lint` if it names none; `lint` has all files; and `next` has the timer that its expressions make, or the reason
 -- why they make none. For `same` and `cron`, this says nothing.
 abbrev pub AreAll : (Machine → List (List ℕ) → Type 0) → Bool → Option (List ℕ) → LoadedByVerb → Type 0
-AreAll Knows all about (loads.List timers named is_all) = HasAllFor Knows all (map string_bytes named.now) timers
+AreAll Knows all about (loads.List timers named is_all entries) = HasAllFor Knows all (map string_bytes named.now) timers
 AreAll Knows all about (loads.Show timers named count) = HasAllFor Knows all (map string_bytes named.now) timers
 AreAll Knows all about (loads.Lint files timers crontabs named is_strict) =
     HasAllLinted Knows all (map string_bytes named.now) timers
     × ((machine : Machine) (path : List (List ℕ)) → Knows machine path → AreFilesOn machine path all (map string_bytes named.now) files)
-AreAll Knows all about (loads.Between timers named from to) = HasAllFor Knows all (map string_bytes named.now) timers
+AreAll Knows all about (loads.Between timers named from to entries) = HasAllFor Knows all (map string_bytes named.now) timers
 AreAll Knows all about (loads.Same first one second other) = ⊤
 AreAll Knows all about (loads.Next timers expressions count) =
     IsTimerOrReason (λ machine. (path : List (List ℕ)) × Knows machine path) (map string_bytes expressions.now) timers

@@ -50,10 +50,10 @@ clock_zone Assumed = Some UTC
 -- ## Questions
 
 abbrev pub is_next : Question → Bool
-is_next (questions.List given all) = false
+is_next (questions.List given all crons) = false
 is_next (questions.Show given most) = false
 is_next (questions.Lint given all strict) = false
-is_next (questions.Between start end given all) = false
+is_next (questions.Between start end given all crons) = false
 is_next (questions.Same a b) = false
 is_next (questions.Next given most) = true
 is_next (questions.Due given) = false
@@ -61,10 +61,10 @@ is_next (questions.Cron given) = false
 
 -- whether the answers to a question have times
 abbrev pub shows_times : Question → Bool
-shows_times (questions.List given all) = true
+shows_times (questions.List given all crons) = true
 shows_times (questions.Show given most) = true
 shows_times (questions.Lint given all strict) = false
-shows_times (questions.Between start end given all) = true
+shows_times (questions.Between start end given all crons) = true
 shows_times (questions.Same a b) = true
 shows_times (questions.Next given most) = true
 shows_times (questions.Due given) = true

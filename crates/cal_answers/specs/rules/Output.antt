@@ -1,7 +1,7 @@
 -- What is printed, and the exit status: for each verb the text or the JSON document of a report, with its error lines.
-use Rattle.std.specs.Prelude.{◌≡◌, ◌==◌, ◌++◌, ◌&&◌, ◌||◌, ◌⊎◌, ℕ, ℤ, Bool, false, true, is_none, not, List, [], Option, None, Some, Result, Ok, Err, codes, if◌then◌else◌, int_lt, length, map, max, option_map, slice_get, string_bytes}
+use Rattle.std.specs.Prelude.{◌≡◌, ◌==◌, ◌++◌, ◌&&◌, ◌||◌, ◌⊎◌, ℕ, ℤ, Bool, false, true, is_none, not, List, [], Option, None, Some, Result, Ok, Err, codes, if◌then◌else◌, int_lt, length, map, max, option_map, pos, slice_get, string_bytes}
 use Rattle.std.specs.List.{AllZip, flat_map}
-use Rattle.std.specs.Option.{option_or}
+use Rattle.std.specs.Option.{option_map_or, option_or}
 use Rattle.std.specs.Str.{bytes_eq}
 use Rattle.cal_bytes.specs.rules.Trim.{trim_end_matches}
 use Rattle.cal_machine.specs.rules.Places.{is_slash}
@@ -35,22 +35,26 @@ use Rattle.cal_tasks.specs.rules.ShowReport.{IsShownTimer}
 use Rattle.cal_tasks.specs.rules.When.{setting_with, when_in}
 use Rattle.cal_timers_command.specs.declared.question.Command.{Command}
 use Rattle.cal_timers_command.specs.declared.question.Options.{Options}
+use Rattle.cal_timers_report.specs.declared.report.ListRow.{ListRow}
+use Rattle.cal_timers_report.specs.declared.report.UnitElapse.{UnitElapse}
 use Rattle.cal_timers_report.specs.declared.style.Style.{Style}
 use Rattle.cal_timers_report.specs.rules.BetweenText.{between_lines}
 use Rattle.cal_timers_report.specs.rules.Documents.{between_document, due_document, list_document, same_document, show_document}
 use Rattle.cal_timers_report.specs.rules.DueText.{due_line}
 use Rattle.cal_timers_report.specs.rules.ListTable.{list_table}
-use Rattle.cal_timers_report.specs.rules.ReportView.{ComparisonView, DueView, ElapseView, TimerView, UnitView}
+use Rattle.cal_timers_report.specs.rules.ReportView.{ComparisonView, DueView, ElapseView, TimerView, UnitView, elapse_seen, unit_seen}
 use Rattle.cal_timers_report.specs.rules.SameText.{same_lines}
 use Rattle.cal_timers_report.specs.rules.ShowText.{show_lines}
 use Rattle.cal_timers_text.specs.rules.Warnings.{warnings_in}
 use Rattle.cal_unit_index.specs.declared.index.UnitIndex.{UnitIndex}
 use Rattle.cal_zone.specs.rules.Zone.{zone_of}
 use Rattle.cal_answers.specs.declared.answer.Asked.{Asked}
+use Rattle.cal_answers.specs.declared.crontab_timers.CrontabTimers.{CrontabTimers}
 use Rattle.cal_answers.specs.declared.found.Found as founds
 use Rattle.cal_answers.specs.declared.found.Known.{Known}
 use Rattle.cal_answers.specs.declared.found.LoadedByVerb.{LoadedByVerb}
 use Rattle.cal_answers.specs.declared.found.LoadedByVerb.TheVariants as loads
+use Rattle.cal_answers.specs.rules.CrontabTimers.{AreMerged, HasCrontabLines}
 use Rattle.cal_answers.specs.rules.ErrorText.{fault_lines, lines_of_both, lint_lines, loaded_lines, masked_lines, unreadable_lines}
 use Rattle.cal_answers.specs.rules.Found.{IsFoundBy}
 use Rattle.cal_answers.specs.rules.LintOutput.{IsLintBy}
@@ -74,11 +78,27 @@ list_output asked rows =
     if asked.is_json then list_document asked.shown.local asked.shown.now.secs rows
     else list_table asked.style asked.shown.local asked.shown.now.secs rows
 
--- the output lists the timers and these masked units
-abbrev pub IsListOutput : Asked → Loaded → List (List ℕ) → List ℕ → Type 0
-IsListOutput asked loaded masked out =
-    (rows : List UnitView) × IsListOf asked.at loaded masked (map unguarded_seen asked.unguarded.now) rows
-    × (out ≡ list_output asked rows)
+-- the second of the next elapse; a row without one counts as later than all others
+abbrev pub next_second : ListRow → ℤ
+next_second row = option_map_or (λ instant. instant.secs) row.next (pos 9_223_372_036_854_775_807)
+
+-- the rows are those of the timers and of these masked units
+abbrev pub AreTimerRows : Asked → Loaded → List (List ℕ) → List ListRow → Type 0
+AreTimerRows asked loaded masked rows =
+    IsListOf asked.at loaded masked (map unguarded_seen asked.unguarded.now) (map unit_seen rows)
+
+-- the rows are those of the timers and of these masked units and, if crontabs are asked for, those of their entries,
+-- soonest first
+abbrev pub AreListRows : Asked → Loaded → List (List ℕ) → Option CrontabTimers → List ListRow → Type 0
+AreListRows asked loaded masked None rows = AreTimerRows asked loaded masked rows
+AreListRows asked loaded masked (Some entries) rows =
+    (units others : List ListRow) × AreTimerRows asked loaded masked units
+    × IsListOf asked.at entries.timers [] [] (map unit_seen others) × AreMerged next_second units others rows
+
+-- the output lists the timers, these masked units, and the entries of crontabs, if these are asked for
+abbrev pub IsListOutput : Asked → Loaded → List (List ℕ) → Option CrontabTimers → List ℕ → Type 0
+IsListOutput asked loaded masked entries out =
+    (rows : List ListRow) × AreListRows asked loaded masked entries rows × (out ≡ list_output asked (map unit_seen rows))
 
 abbrev pub show_output : Asked → List TimerView → List (List ℕ) → List ℕ
 show_output asked timers masked =
@@ -100,15 +120,27 @@ abbrev pub between_output : Asked → List ElapseView → List ℕ
 between_output asked rows =
     if asked.is_json then between_document asked.shown.local rows else between_lines asked.shown.local rows
 
--- the output has the elapses of the timers in the range
-abbrev pub IsBetweenOutput : Asked → Loaded → ℤ → ℤ → List ℕ → Type 0
-IsBetweenOutput asked loaded from before out =
-    (rows : List ElapseView) × AreBetween asked.at from before loaded.timers.items rows × (out ≡ between_output asked rows)
+abbrev pub elapse_second : UnitElapse → ℤ
+elapse_second elapse = elapse.instant.secs
 
-abbrev pub IsRangeAnswer : Asked → Loaded → ℤ → ℤ → Bool → Printed → Type 0
-IsRangeAnswer asked loaded from before true printed = IsStopped (codes "TO is before FROM") printed
-IsRangeAnswer asked loaded from before false printed =
-    IsBetweenOutput asked loaded from before printed.out × HasLoadedLines loaded printed
+-- the rows are the elapses of the timers in the range and, if crontabs are asked for, those of their entries, in
+-- increasing order
+abbrev pub AreBetweenRows : Asked → Loaded → Option CrontabTimers → ℤ → ℤ → List UnitElapse → Type 0
+AreBetweenRows asked loaded None from before rows = AreBetween asked.at from before loaded.timers.items (map elapse_seen rows)
+AreBetweenRows asked loaded (Some entries) from before rows =
+    (units others : List UnitElapse) × AreBetween asked.at from before loaded.timers.items (map elapse_seen units)
+    × AreBetween asked.at from before entries.timers.timers.items (map elapse_seen others) × AreMerged elapse_second units others rows
+
+-- the output has the elapses in the range of the timers, and of the entries of crontabs, if these are asked for
+abbrev pub IsBetweenOutput : Asked → Loaded → Option CrontabTimers → ℤ → ℤ → List ℕ → Type 0
+IsBetweenOutput asked loaded entries from before out =
+    (rows : List UnitElapse) × AreBetweenRows asked loaded entries from before rows × (out ≡ between_output asked (map elapse_seen rows))
+
+abbrev pub IsRangeAnswer : Asked → Loaded → Option CrontabTimers → ℤ → ℤ → Bool → Printed → Type 0
+IsRangeAnswer asked loaded entries from before true printed = IsStopped (codes "TO is before FROM") printed
+IsRangeAnswer asked loaded entries from before false printed =
+    (answer : Printed) × IsBetweenOutput asked loaded entries from before answer.out × HasLoadedLines loaded answer
+    × HasCrontabLines entries answer printed
 
 -- the reason why a time can't be used: its text and the error
 abbrev pub bad_time : List ℕ → StampFault → List ℕ
@@ -120,21 +152,21 @@ IsStoppedBy text (NoInstant fault) printed = IsStopped (bad_time text fault) pri
 IsStoppedBy text NoMemory printed = ⊥
 
 -- the answer for a range that starts at `from`, given the result of resolving its end, the text `before`
-abbrev pub IsAnswerUntil : Asked → Loaded → ℤ → List ℕ → Result ℤ StampFault → Printed → Type 0
-IsAnswerUntil asked loaded from before (Err fault) printed = IsStopped (bad_time before fault) printed
-IsAnswerUntil asked loaded from before (Ok end) printed = IsRangeAnswer asked loaded from end (int_lt end from) printed
+abbrev pub IsAnswerUntil : Asked → Loaded → Option CrontabTimers → ℤ → List ℕ → Result ℤ StampFault → Printed → Type 0
+IsAnswerUntil asked loaded entries from before (Err fault) printed = IsStopped (bad_time before fault) printed
+IsAnswerUntil asked loaded entries from before (Ok end) printed = IsRangeAnswer asked loaded entries from end (int_lt end from) printed
 
 -- the answer for a range between these two texts, given the result of resolving its start; an end such as `Mon 06:00`
 -- is the first such time after the start
-abbrev pub IsAnswerFrom : Asked → Loaded → List ℕ → List ℕ → Result ℤ StampFault → Printed → Type 0
-IsAnswerFrom asked loaded from before (Err fault) printed = IsStopped (bad_time from fault) printed
-IsAnswerFrom asked loaded from before (Ok start) printed =
-    IsAnswerUntil asked loaded start before (when_in asked.shown.now.secs (setting_with asked.shown asked.range.now.before) start before) printed
+abbrev pub IsAnswerFrom : Asked → Loaded → Option CrontabTimers → List ℕ → List ℕ → Result ℤ StampFault → Printed → Type 0
+IsAnswerFrom asked loaded entries from before (Err fault) printed = IsStopped (bad_time from fault) printed
+IsAnswerFrom asked loaded entries from before (Ok start) printed =
+    IsAnswerUntil asked loaded entries start before (when_in asked.shown.now.secs (setting_with asked.shown asked.range.now.before) start before) printed
 
 -- the answer for the range that begins at the time `from` and ends at the time `before`, which are texts
-abbrev pub IsBetweenAnswer : Asked → Loaded → List ℕ → List ℕ → Printed → Type 0
-IsBetweenAnswer asked loaded from before printed =
-    IsAnswerFrom asked loaded from before
+abbrev pub IsBetweenAnswer : Asked → Loaded → Option CrontabTimers → List ℕ → List ℕ → Printed → Type 0
+IsBetweenAnswer asked loaded entries from before printed =
+    IsAnswerFrom asked loaded entries from before
     (when_in asked.shown.now.secs (setting_with asked.shown asked.range.now.from) asked.shown.now.secs from) printed
 
 -- whether the name of the timer is the target itself, slashes at its end aside; the timers of a folder have other names
@@ -275,9 +307,10 @@ IsCronAnswer asked crontabs printed =
 
 -- ## The answer
 
-abbrev pub IsListAnswer : {X : Type 0} → Asked → List X → Bool → Loaded → Printed → Type 0
-IsListAnswer asked named is_all loaded printed =
-    IsListOutput asked loaded (listed_masked named is_all loaded) printed.out × HasLoadedLines loaded printed
+abbrev pub IsListAnswer : {X : Type 0} → Asked → List X → Bool → Loaded → Option CrontabTimers → Printed → Type 0
+IsListAnswer asked named is_all loaded entries printed =
+    (answer : Printed) × IsListOutput asked loaded (listed_masked named is_all loaded) entries answer.out
+    × HasLoadedLines loaded answer × HasCrontabLines entries answer printed
 
 abbrev pub IsShowAnswer : Asked → ℕ → Loaded → Printed → Type 0
 IsShowAnswer asked count loaded printed = IsShowOutput asked count loaded printed.out × HasLoadedLines loaded printed
@@ -291,10 +324,10 @@ IsLintAnswer asked is_strict index files timers crontabs printed =
 
 -- what a verb answers for what was loaded
 abbrev pub IsVerbAnswer : Asked → UnitIndex → LoadedByVerb → Printed → Type 0
-IsVerbAnswer asked index (loads.List timers named is_all) printed = IsListAnswer asked named.now is_all timers printed
+IsVerbAnswer asked index (loads.List timers named is_all entries) printed = IsListAnswer asked named.now is_all timers entries printed
 IsVerbAnswer asked index (loads.Show timers named count) printed = IsShowAnswer asked count timers printed
 IsVerbAnswer asked index (loads.Lint files timers crontabs named is_strict) printed = IsLintAnswer asked is_strict index files timers crontabs printed
-IsVerbAnswer asked index (loads.Between timers named from to) printed = IsBetweenAnswer asked timers from.now to.now printed
+IsVerbAnswer asked index (loads.Between timers named from to entries) printed = IsBetweenAnswer asked timers entries from.now to.now printed
 IsVerbAnswer asked index (loads.Same first one second other) printed = IsSameAnswer asked one.now other.now first second printed
 IsVerbAnswer asked index (loads.Next timers expressions count) printed = IsShowAnswer asked count timers printed
 IsVerbAnswer asked index (loads.Due timer named) printed = IsDueAnswer asked (option_map (λ name. name.now) named) timer printed

@@ -27,10 +27,10 @@ pub record HasZoneAtEnd (machine : Machine) (text : List ℕ) (table : ZoneMap) 
 
 -- the text of the range's start, which only `between` has; empty for other verbs
 abbrev pub range_start : Question → List ℕ
-range_start (questions.List given all) = []
+range_start (questions.List given all crons) = []
 range_start (questions.Show given most) = []
 range_start (questions.Lint given all strict) = []
-range_start (questions.Between start end given all) = string_bytes start
+range_start (questions.Between start end given all crons) = string_bytes start
 range_start (questions.Same a b) = []
 range_start (questions.Next given most) = []
 range_start (questions.Due given) = []
@@ -38,10 +38,10 @@ range_start (questions.Cron given) = []
 
 -- the text of the range's end; empty for other verbs than `between`
 abbrev pub range_end : Question → List ℕ
-range_end (questions.List given all) = []
+range_end (questions.List given all crons) = []
 range_end (questions.Show given most) = []
 range_end (questions.Lint given all strict) = []
-range_end (questions.Between start end given all) = string_bytes end
+range_end (questions.Between start end given all crons) = string_bytes end
 range_end (questions.Same a b) = []
 range_end (questions.Next given most) = []
 range_end (questions.Due given) = []

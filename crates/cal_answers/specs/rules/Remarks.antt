@@ -28,7 +28,7 @@ if_unknown faults target = if list_any (is_unknown target) faults then Some targ
 
 -- the first timer that `list` names, if there is no such timer
 abbrev pub unknown_name : LoadedByVerb → Option (List ℕ)
-unknown_name (loads.List timers named is_all) =
+unknown_name (loads.List timers named is_all entries) =
     option_and_then (if_unknown timers.faults.items) (slice_get (map string_bytes named.now) 0)
 unknown_name _ = None
 
@@ -57,10 +57,10 @@ is_empty_lint files timers crontabs =
 
 -- whether loading found no timer, no file, no crontab, no masked unit and no error; `same`, `next`, `due` and `cron` take no folders
 abbrev pub is_nothing : LoadedByVerb → Bool
-is_nothing (loads.List timers named is_all) = is_empty timers
+is_nothing (loads.List timers named is_all entries) = is_empty timers
 is_nothing (loads.Show timers named count) = is_empty timers
 is_nothing (loads.Lint files timers crontabs named is_strict) = is_empty_lint files timers crontabs
-is_nothing (loads.Between timers named from to) = is_empty timers
+is_nothing (loads.Between timers named from to entries) = is_empty timers
 is_nothing (loads.Same first one second other) = false
 is_nothing (loads.Next timers expressions count) = false
 is_nothing (loads.Due timer named) = false
@@ -68,10 +68,10 @@ is_nothing (loads.Cron crontabs named) = false
 
 -- the timers that were named for `list`, `show`, `lint` or `between`; none for other verbs
 abbrev pub named_in : LoadedByVerb → List (List ℕ)
-named_in (loads.List timers named is_all) = map string_bytes named.now
+named_in (loads.List timers named is_all entries) = map string_bytes named.now
 named_in (loads.Show timers named count) = map string_bytes named.now
 named_in (loads.Lint files timers crontabs named is_strict) = map string_bytes named.now
-named_in (loads.Between timers named from to) = map string_bytes named.now
+named_in (loads.Between timers named from to entries) = map string_bytes named.now
 named_in (loads.Same first one second other) = []
 named_in (loads.Next timers expressions count) = []
 named_in (loads.Due timer named) = []

@@ -22,10 +22,10 @@ trigger_on machine = option_and_then if_timer_name (variable_on machine (codes "
 
 -- the timer that `due` is about: the one that it names, or else the one that started the service; None for other verbs
 abbrev pub due_on : Machine → Question → Option (List ℕ)
-due_on machine (questions.List given all) = None
+due_on machine (questions.List given all crons) = None
 due_on machine (questions.Show given most) = None
 due_on machine (questions.Lint given all strict) = None
-due_on machine (questions.Between start end given all) = None
+due_on machine (questions.Between start end given all crons) = None
 due_on machine (questions.Same a b) = None
 due_on machine (questions.Next given most) = None
 due_on machine (questions.Cron given) = None

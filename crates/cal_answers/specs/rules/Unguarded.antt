@@ -82,10 +82,10 @@ unguarded_among machine path is_user timers = map entry_of (filter (is_unguarded
 
 -- the unguarded timers among those that were loaded for `list`, `show` or `lint`; none for the other verbs
 abbrev pub unguarded_on : Machine → List (List ℕ) → Bool → LoadedByVerb → List UnguardedView
-unguarded_on machine path is_user (loads.List timers named is_all) = unguarded_among machine path is_user timers.timers.items
+unguarded_on machine path is_user (loads.List timers named is_all entries) = unguarded_among machine path is_user timers.timers.items
 unguarded_on machine path is_user (loads.Show timers named count) = unguarded_among machine path is_user timers.timers.items
 unguarded_on machine path is_user (loads.Lint files timers crontabs named is_strict) = unguarded_among machine path is_user timers.timers.items
-unguarded_on machine path is_user (loads.Between timers named from to) = []
+unguarded_on machine path is_user (loads.Between timers named from to entries) = []
 unguarded_on machine path is_user (loads.Same first one second other) = []
 unguarded_on machine path is_user (loads.Next timers expressions count) = []
 unguarded_on machine path is_user (loads.Due timer named) = []

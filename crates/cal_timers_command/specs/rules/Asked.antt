@@ -23,12 +23,13 @@ use Rattle.cal_timers_command.specs.rules.Verbs.{verb_named}
 -- ## Commands and errors, with each string as the list of its bytes
 
 -- A question, with what its verb needs. A number is the maximum number of elapses. The truth values say whether `--all`
--- and, of `lint`, whether `--strict` is given. `between` has the start and the end of the range before the timers.
+-- is given, and then whether `--cron` or, of `lint`, `--strict` is. `between` has the start and the end of the range
+-- before the timers.
 pub data Question : Type 0 where
-  list : List Text → Bool → Question
+  list : List Text → Bool → Bool → Question
   show : List Text → ℕ → Question
   lint : List Text → Bool → Bool → Question
-  between : Text → Text → List Text → Bool → Question
+  between : Text → Text → List Text → Bool → Bool → Question
   same : Text → Text → Question
   next : List Text → ℕ → Question
   due : Option Text → Question
@@ -55,11 +56,11 @@ pub data Fault : Type 0 where
   no_memory : Fault
 
 abbrev pub shown_question : declared_question.Question → Question
-shown_question (questions.List timers is_all) = list (map string_bytes timers.items) is_all
+shown_question (questions.List timers is_all is_cron) = list (map string_bytes timers.items) is_all is_cron
 shown_question (questions.Show timers count) = show (map string_bytes timers.items) count
 shown_question (questions.Lint timers is_all is_strict) = lint (map string_bytes timers.items) is_all is_strict
-shown_question (questions.Between from to timers is_all) =
-    between (string_bytes from) (string_bytes to) (map string_bytes timers.items) is_all
+shown_question (questions.Between from to timers is_all is_cron) =
+    between (string_bytes from) (string_bytes to) (map string_bytes timers.items) is_all is_cron
 shown_question (questions.Same one other) = same (string_bytes one) (string_bytes other)
 shown_question (questions.Next expressions count) = next (map string_bytes expressions.items) count
 shown_question (questions.Due timer) = due (option_map string_bytes timer)
@@ -161,7 +162,7 @@ targets_in rows = unwrap_or (all_of (codes "target") rows) []
 
 -- the question that a verb with these values asks, or the error of the first invalid value
 unfoldable pub question_for : Verb → List Row → Result Question Fault
-question_for verbs.List rows = Ok (list (targets_in rows) (is_set (codes "all") rows))
+question_for verbs.List rows = Ok (list (targets_in rows) (is_set (codes "all") rows) (is_set (codes "cron") rows))
 question_for verbs.Show rows =
     then_with (one_or_more (targets_in rows)) (λ timers.
     then_with (count_value rows) (λ count.
@@ -170,7 +171,7 @@ question_for verbs.Lint rows = Ok (lint (targets_in rows) (is_set (codes "all") 
 question_for verbs.Between rows =
     then_with (needed (first_of (codes "first") rows)) (λ from.
     then_with (needed (first_of (codes "second") rows)) (λ to.
-    Ok (between from to (targets_in rows) (is_set (codes "all") rows))))
+    Ok (between from to (targets_in rows) (is_set (codes "all") rows) (is_set (codes "cron") rows))))
 question_for verbs.Same rows =
     then_with (needed (first_of (codes "first") rows)) (λ one.
     then_with (needed (first_of (codes "second") rows)) (λ other.

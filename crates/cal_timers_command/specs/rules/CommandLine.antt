@@ -47,6 +47,10 @@ count_rule = value_rule (codes "count") (Some 110)
 abbrev pub all_rule : Rule
 all_rule = flag_rule (codes "all") (Some 97)
 
+-- `--cron`
+abbrev pub cron_rule : Rule
+cron_rule = flag_rule (codes "cron") None
+
 abbrev pub zone_rules : ListOf Rule
 zone_rules = value_rule (codes "zone") None ∷ flag_rule (codes "utc") None ∷ []
 
@@ -84,10 +88,10 @@ some_targets = target_rule (codes "target") Append true
 
 -- the options and positional arguments of a verb, in the order in which the help lists them
 abbrev pub verb_rules : Verb → ListOf Rule
-verb_rules List = all_rule ∷ shared_rules ++ any_targets ∷ []
+verb_rules List = all_rule ∷ cron_rule ∷ shared_rules ++ any_targets ∷ []
 verb_rules Lint = all_rule ∷ flag_rule (codes "strict") None ∷ zone_rules ++ place_rules ++ user_rule ∷ json_rule ∷ any_targets ∷ []
 verb_rules Show = count_rule ∷ shared_rules ++ some_targets ∷ []
-verb_rules Between = pair_rules ++ all_rule ∷ shared_rules ++ any_targets ∷ []
+verb_rules Between = pair_rules ++ all_rule ∷ cron_rule ∷ shared_rules ++ any_targets ∷ []
 verb_rules Same = pair_rules ++ shared_rules
 verb_rules Next = count_rule ∷ zone_rules ++ in_rule ∷ place_rules ++ json_rule ∷ some_targets ∷ []
 verb_rules Due = shared_rules ++ one_target ∷ []

@@ -2,13 +2,19 @@ use Rattle.cal_answers.proofs.FoundLemmas.{made_at}
 use Rattle.cal_answers.proofs.loading.load_by_verb.Goals as goal
 
 pub returns-in_ok-load_named-in-List-clause-known : goal.returns-in_ok-load_named-in-List-clause-known
-returns-in_ok-load_named-in-List-clause-known g c = c.in_ok-load_named-in-List.ensures.known
+returns-in_ok-load_named-in-List-clause-known g c = λ machine path shows is. (
+  c.in_ok-load_named-in-List.ensures.known machine path shows is,
+  c.in_ok-entries-in-List.ensures.known machine (c.in_ok-load_named-in-List.ensures.grows machine shows),
+)
 
 pub returns-in_ok-load_named-in-Show-clause-known : goal.returns-in_ok-load_named-in-Show-clause-known
 returns-in_ok-load_named-in-Show-clause-known g c = c.in_ok-load_named-in-Show.ensures.known
 
 pub returns-in_ok-load_named-in-Between-clause-known : goal.returns-in_ok-load_named-in-Between-clause-known
-returns-in_ok-load_named-in-Between-clause-known g c = c.in_ok-load_named-in-Between.ensures.known
+returns-in_ok-load_named-in-Between-clause-known g c = λ machine path shows is. (
+  c.in_ok-load_named-in-Between.ensures.known machine path shows is,
+  c.in_ok-entries-in-Between.ensures.known machine (c.in_ok-load_named-in-Between.ensures.grows machine shows),
+)
 
 pub returns-in_ok-first-in-Same-clause-known : goal.returns-in_ok-first-in-Same-clause-known
 returns-in_ok-first-in-Same-clause-known g c = c.in_ok-first-in-Same.ensures.known

@@ -5,7 +5,7 @@ use Rattle.cal_machine.specs.rules.Machine.{Machine}
 use Rattle.cal_unit_index.specs.rules.Index.{IsIndexOf}
 use Rattle.cal_answers.specs.rules.Found.{AreAll, AreLoadedOn, IsIndexFor, asks_all, needs_units}
 use Rattle.cal_answers.specs.rules.Trigger.{due_on}
-use Rattle.cal_answers.proofs.FoundLemmas.{known_on, loaded_at}
+use Rattle.cal_answers.proofs.FoundLemmas.{known_on, loaded_at, only_memory}
 use Rattle.cal_answers.proofs.reading.read_known.Goals as goal
 
 pub returns-clause-known : goal.returns-clause-known
@@ -41,4 +41,9 @@ returns-in_err-path-clause-fault g c =
 pub returns-in_err-range-clause-fault : goal.returns-in_err-range-clause-fault
 returns-in_err-range-clause-fault g c =
     let same : c.from_residual-in_err-range.result ≡ Err NoMemory = search rules in
+    rw same (λ other. absurd (other refl))
+
+pub returns-in_err-unguarded-clause-fault : goal.returns-in_err-unguarded-clause-fault
+returns-in_err-unguarded-clause-fault g c =
+    let same = only_memory c.from_residual-in_err-unguarded.result c.from_residual-in_err-unguarded.ensures.1 in
     rw same (λ other. absurd (other refl))

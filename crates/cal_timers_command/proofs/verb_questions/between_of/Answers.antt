@@ -18,5 +18,5 @@ returns-in_err-to-clause-fault c =
 
 pub returns-clause-question : goal.returns-clause-question
 returns-clause-question c =
-    between_asked (rows_of (found_of c.args.values.now)) (string_bytes c.in_ok-from.from) (string_bytes c.in_ok-to.to) (map string_bytes c.in_ok-timers.timers.items) _
-    c.in_ok-from.ensures.text c.in_ok-to.ensures.text c.in_ok-timers.ensures c.is_set.ensures
+    between_asked (rows_of (found_of c.args.values.now)) (string_bytes c.in_ok-from.from) (string_bytes c.in_ok-to.to) (map string_bytes c.in_ok-timers.timers.items) _ _
+    c.in_ok-from.ensures.text c.in_ok-to.ensures.text c.in_ok-timers.ensures c.is_set.ensures c.is_set-2.ensures
