@@ -47,6 +47,7 @@ TREE = {
     f"{UNITS}/backup.timer.d/late.conf": b"[Timer]\nOnCalendar=Sat 20:00 Test/Fixed\nRandomizedDelaySec=1h\n",
     f"{UNITS}/save.timer.d/early.conf": b"[Timer]\nX-ExceptOnCalendar=Tue\n",
     f"{UNITS}/wrong.timer": b"[Timer]\nOnCalendar=dayly\nOnCalender=daily\n",
+    "tree/etc/crontab": b"CRON_TZ=UTC\n0 0 1 * 1 root clean\n@reboot root start\n",
     "tree/usr/share/zoneinfo/Test/Fixed": FILES["fixed"],
     "own/nightly.timer": b"[Timer]\nOnCalendar=02:30\n",
 }
@@ -214,6 +215,10 @@ TIMERS_ROWS = [
     timers_row("the crontabs of a machine", ["cron", ROOT]),
     timers_row("timers and the crontabs of a machine", ["list", "--cron", ROOT, NOW, "./own"]),
     timers_row("a day of timers and crontabs", ["between", "--cron", ROOT, NOW, "now", "tomorrow", "backup"]),
+    timers_row("an entry and a timer", ["same", ROOT, NOW, "30 4 1,15 * 5 x", "backup"], 1),
+    timers_row("entries in place of expressions", ["next", ROOT, NOW, "--zone=Test/Fixed", "@daily", "0 0 1 * 1"]),
+    timers_row("an invalid entry in place of an expression", ["next", ROOT, NOW, "61 * * * *"], 1),
+    timers_row("what is wrong with a crontab", ["lint", ROOT, "/etc/crontab"]),
     timers_row("an unknown zone", ["list", ROOT, NOW, "--zone=Mars/One"], 2),
     timers_row("help for timers", ["--help"]),
     timers_row("help for a verb of timers", ["between", "--help"]),

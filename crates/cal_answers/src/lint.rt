@@ -171,7 +171,7 @@ fn unread(
     Ok(found)
 }
 
-/// Appends an error for each of these paths that can't be read.
+/// Appends an error for each of these paths, none of which can be read.
 fn add_unread_paths(
     alloc: Global,
     unreadable: &[UnitFault],

@@ -197,7 +197,7 @@ fn load_linted<T: Tree>(
     Ok(linted)
 }
 
-/// Like [`load_linted`], for targets that are texts.
+/// Like [`load_linted`], for string slices.
 fn load_lint_targets<T: Tree>(
     alloc: Global,
     tree: &mut T,
@@ -253,7 +253,7 @@ struct LintTargets<'t> {
     others: Vec<&'t str>,
 }
 
-/// Finds the targets that are crontabs.
+/// Separates the crontabs from the other targets.
 fn split_targets<'t, T: Tree>(
     alloc: Global,
     tree: &mut T,
@@ -371,8 +371,9 @@ fn load_sides<T: Tree>(
     Ok((first, second))
 }
 
-/// Loads a unit or a file. If neither exists, loads the target as an expression or as an entry of a crontab. If that fails
-/// too, returns the error about the unit or the file, unless the target can only be an entry.
+/// Loads a unit or a file. If neither exists, loads the target as an expression or as an entry of a crontab. If that
+/// fails too, returns the error about the entry if the target has the form of one, and otherwise the error about the
+/// unit or the file.
 fn load_side<T: Tree>(
     alloc: Global,
     tree: &mut T,
@@ -397,8 +398,8 @@ fn load_side<T: Tree>(
     }
 }
 
-/// Returns whether a target was loaded as an entry of a crontab, and is invalid as one. A target that begins like a path is
-/// never an entry.
+/// Returns whether loading a target failed because it is an invalid entry of a crontab. A target that begins like a
+/// path is never an entry.
 fn is_invalid_entry(target: &str, loaded: &Loaded) -> bool
     ensures { result ≡ is_invalid_entry target.now loaded.now }
 {

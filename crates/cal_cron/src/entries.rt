@@ -47,7 +47,7 @@ pub fn read_crontab<'t>(
 
 /// Reads the time of an entry that is given by itself: five time fields or a word that begins with `@`. A command may
 /// follow. Fails with [`CronFault::NoMemory`] only if allocation fails, and with [`CronFault::FieldCount`] if the text
-/// has too few words for an entry, or several lines.
+/// has too few words for an entry, or contains a line feed.
 #[tactic(auto, unfolding(crate::specs::rules::CrontabLines::single_entry_time))]
 pub fn read_entry_time(alloc: Global, text: &str) -> Result<EntryTime, CronFault>
     ensures { LineGivesUnlessNoMemory time_shown result (single_entry_time exprs_in text.now) }

@@ -32,12 +32,11 @@ const UNIT_SUFFIXES: [&[u8]; 12] = [
     b".scope",
 ];
 
-/// Returns whether a target is a crontab, and not a unit, a file of a unit or a folder.
+/// Returns whether a target of `lint` is checked as a crontab.
 ///
-/// Any path at which cron looks for crontabs is one: `/etc/crontab`, or a path directly in `/etc/cron.d` or
-/// `/var/spool/cron/crontabs`. Any other path is a crontab if it doesn't have the suffix of a unit or a drop-in, and its
-/// file has at least one valid entry, other than `@reboot`, and no line that begins with `[`. Fails only if allocation
-/// fails.
+/// Whatever is at `/etc/crontab`, or at a path directly in `/etc/cron.d` or `/var/spool/cron/crontabs`, counts as a
+/// crontab. Any other path is a crontab if it doesn't have the suffix of a unit or a drop-in, and its file has at least
+/// one valid entry, other than `@reboot`, and no line that begins with `[`. Fails only if allocation fails.
 #[tactic(auto, unfolding(crate::specs::rules::CrontabFiles::is_crontab))]
 pub fn is_crontab<T: Tree>(alloc: Global, tree: &mut T, target: &str) -> Result<bool, AllocError>
     ensures known { IfOk result (λ is. (machine : Machine) → T.shows tree.new machine
@@ -56,8 +55,8 @@ pub fn is_crontab<T: Tree>(alloc: Global, tree: &mut T, target: &str) -> Result<
     }
 }
 
-/// Reads the crontabs at these paths, in their order. An empty file is a crontab without lines. What can't be read is in
-/// [`Crontabs::faults`]. Fails only if allocation fails.
+/// Reads the crontabs at these paths, in their order. An empty file is a crontab without lines. Errors about files that
+/// can't be read are in [`Crontabs::faults`]. Fails only if allocation fails.
 pub fn load_crontab_files<T: Tree>(
     alloc: Global,
     tree: &mut T,
@@ -95,7 +94,7 @@ fn take_path<T: Tree>(
     }
 }
 
-/// Returns whether cron looks for crontabs at a path.
+/// Returns whether a path is `/etc/crontab`, or directly in one of cron's folders.
 fn is_cron_place(path: &str) -> bool
     ensures { result ≡ is_cron_place path.now }
 {

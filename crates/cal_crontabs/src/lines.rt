@@ -1,4 +1,4 @@
-//! The lines of a crontab whose text may have any length.
+//! The lines of a crontab, and the maximum size of its text.
 
 ghost use Rattle.std.specs.Prelude.{◌≡◌, IfOk, map};
 ghost use Rattle.cal_cron.specs.computed.CrontabViews.{line_shown};
@@ -12,8 +12,8 @@ use std::alloc::{AllocError, Global};
 /// UTF-8 is replaced by at most three bytes. No argument is longer on Linux (`MAX_ARG_STRLEN`, execve(2)).
 const MAX_TEXT: usize = 3 * 1_048_576;
 
-/// Returns the lines of a crontab that aren't blank and aren't comments. No crontab has a text longer than
-/// [`MAX_TEXT`]; a longer text would have no lines. Fails only if allocation fails.
+/// Returns the lines of a crontab that aren't blank and aren't comments. Returns no lines if the text is longer than
+/// [`MAX_TEXT`], which doesn't occur. Fails only if allocation fails.
 #[tactic(auto, unfolding(crate::specs::rules::Entries::lines_of))]
 pub(crate) fn lines_of<'t>(
     alloc: Global,

@@ -44,11 +44,10 @@ pub lines_of_more : (texts : List (List ℕ)) (text : List ℕ) (old new : List 
 lines_of_more texts text old new before step =
     let found = found_one (expressions_for text) old new step in
     let all : List ℕ → List Written = λ one. or_none (expressions_for one) in
-    let last : flat_map all (text ∷ []) ≡ or_none (expressions_for text) = append-nil (or_none (expressions_for text)) in
-    (
-        found.0 ∙ ap (λ front. front ++ or_none (expressions_for text)) before.0
-        ∙ ap (λ back. flat_map all texts ++ back) (sym last) ∙ sym (flat_map-append all texts (text ∷ [])),
-        All-append (λ one. is_ok (expressions_for one) ≡ true) texts (text ∷ []) before.1 (All-cons (λ one. is_ok (expressions_for one) ≡ true) text [] found.1 (All-nil (λ one. is_ok (expressions_for one) ≡ true)))
+    let last : flat_map all (text ∷ []) ≡ or_none (expressions_for text) = append-nil (or_none (expressions_for text)) in (
+      found.0 ∙ ap (λ front. front ++ or_none (expressions_for text)) before.0
+          ∙ ap (λ back. flat_map all texts ++ back) (sym last) ∙ sym (flat_map-append all texts (text ∷ [])),
+      All-append (λ one. is_ok (expressions_for one) ≡ true) texts (text ∷ []) before.1 (All-cons (λ one. is_ok (expressions_for one) ≡ true) text [] found.1 (All-nil (λ one. is_ok (expressions_for one) ≡ true))),
     )
 
 -- the same for the first `i` texts and the next one

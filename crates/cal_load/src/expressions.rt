@@ -25,11 +25,11 @@ use cal_zone::ZoneTable;
 use cal_zone_files::{FileReason, ZonesFault};
 use std::alloc::{AllocError, Global};
 
-/// Returns the timer that has these calendar expressions and no exceptions (systemd.time(7), Calendar Events). A text that
-/// isn't an expression may be an entry of a crontab, with or without a command (crontab(5)): it stands for one or two
-/// expressions. If a text is neither, there is no timer, and [`Loaded::faults`] has the error of the first such text. If
-/// all texts are valid, but a zone can't be loaded, there is no timer either, and [`Loaded::faults`] has an error for the
-/// first expression that names this zone. Fails only if allocation fails.
+/// Returns the timer that has these calendar expressions and no exceptions (systemd.time(7), Calendar Events). A text
+/// that isn't an expression may be an entry of a crontab, with or without a command (crontab(5)); an entry stands for
+/// one or two expressions. If a text is neither, there is no timer, and [`Loaded::faults`] has the error of the first
+/// such text. If all texts are valid, but a zone can't be loaded, there is no timer either, and [`Loaded::faults`] has
+/// an error for the first expression that names this zone. Fails only if allocation fails.
 pub fn load_expressions<T: Tree>(
     alloc: Global,
     tree: &mut T,
@@ -81,8 +81,8 @@ fn push_expressions(
     }
 }
 
-/// Appends the expressions of an entry of a crontab. `invalid` says why the text isn't an expression, which is the error
-/// if it isn't an entry either.
+/// Appends the expressions of an entry of a crontab. `invalid` says why the text isn't an expression; it is the error
+/// if the text has too few words for an entry.
 fn push_entry(
     alloc: Global,
     lines: &mut Vec<TimerLine>,
@@ -109,11 +109,7 @@ fn push_entry(
     }
 }
 
-fn push_times(
-    alloc: Global,
-    lines: &mut Vec<TimerLine>,
-    exprs: CronExprs,
-) -> Result<(), AllocError>
+fn push_times(alloc: Global, lines: &mut Vec<TimerLine>, exprs: CronExprs) -> Result<(), AllocError>
     ensures { OnOk result (map written (map shown lines.new.items)
         ≡ map written (map shown lines.old.items) ++ expressions_of (shown_exprs exprs)) }
 {

@@ -8,8 +8,7 @@ use cal_load::LoadedTimer;
 use cal_timer::TimerLine;
 use std::alloc::{AllocError, Global};
 
-/// Returns whether a timer was made of texts, at least one of which is an entry of a crontab, and not of files or
-/// expressions.
+/// Returns whether a timer was made of texts rather than files, and at least one of the texts is an entry of a crontab.
 pub(crate) fn is_from_crontab(alloc: Global, timer: &LoadedTimer) -> Result<bool, AllocError>
     ensures { IfOk result (λ is. is ≡ is_from_crontab timer.now) }
 {
@@ -22,10 +21,7 @@ pub(crate) fn is_from_crontab(alloc: Global, timer: &LoadedTimer) -> Result<bool
 }
 
 /// Returns the texts of a timer's expressions. Those of an entry of a crontab are in normal form.
-pub(crate) fn expression_texts(
-    alloc: Global,
-    timer: &LoadedTimer,
-) -> Result<Vec<&str>, AllocError>
+pub(crate) fn expression_texts(alloc: Global, timer: &LoadedTimer) -> Result<Vec<&str>, AllocError>
     ensures { IfOk result (λ texts. map (λ text. text.now) texts.items ≡ expression_texts timer.now) }
 {
     texts_of(alloc, timer.lines())

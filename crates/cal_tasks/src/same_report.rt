@@ -1,5 +1,5 @@
 //! The report of `same`: the instants at which only one of two timers elapses, the settings that only one has, and the
-//! expressions as which entries of crontabs were read.
+//! expressions that entries of crontabs were read as.
 
 ghost use Rattle.std.specs.Prelude.{◌≡◌, IfOk, map, string_bytes};
 ghost use Rattle.std.specs.List.{list_any};

@@ -58,8 +58,8 @@ pub fn shown_timer<'a>(
     })
 }
 
-/// Returns the notes of a timer: that systemd ignores its exceptions, its other settings, and that cron treats these clock
-/// changes otherwise.
+/// Returns the notes of a timer: that systemd ignores its exceptions, its other settings, and that cron handles clock
+/// changes differently, if there are `changes`.
 fn notes_of<'a>(
     alloc: Global,
     timer: &'a LoadedTimer,
@@ -77,8 +77,8 @@ fn notes_of<'a>(
     Ok(notes)
 }
 
-/// Appends the note that cron treats clock changes otherwise, if the timer was made of an entry of a crontab, and there
-/// are such changes.
+/// Appends the note that cron handles clock changes differently, if the timer was made of an entry of a crontab and
+/// there are `changes`.
 fn push_cron_note(
     alloc: Global,
     notes: &mut Vec<&str>,

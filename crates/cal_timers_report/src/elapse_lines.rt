@@ -62,10 +62,10 @@ fn push_elapse(
     out.push('\n')
 }
 
-/// Returns a text that says how two timers differ. First, there is a line for each expression as which an entry of a
-/// crontab was read. For each timer that elapses at an instant at which the other doesn't, there is then a line with the
-/// first such instant. If there are no such instants, there is the line `same`. Then there is a line for each setting that
-/// only one of them has.
+/// Returns a text that says how two timers differ. First, there is a line for each expression that an entry of a
+/// crontab was read as. For each timer that elapses at an instant at which the other doesn't, there is then a line with
+/// the first such instant. If there are no such instants, there is the line `same`. Then there is a line for each
+/// setting that only one of them has.
 pub fn same_text(
     alloc: Global,
     zone: Zone<'_>,
@@ -87,7 +87,7 @@ pub fn same_text(
     Ok(out)
 }
 
-/// Appends a line for each expression as which the timer's name was read.
+/// Appends a line for each expression that the timer's name was read as.
 fn push_readings(out: &mut String, side: &Side<'_>) -> Result<(), AllocError>
     ensures { OnOk result (string_bytes out.new ≡ string_bytes out.old ++ reading_lines (side_seen side.now)) }
 {

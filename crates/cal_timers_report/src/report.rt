@@ -91,7 +91,7 @@ pub struct Comparison<'a> {
 pub struct Side<'a> {
     /// The name of this timer.
     pub unit: &'a str,
-    /// The expressions as which the name was read, in normal form, if it is an entry of a crontab. Otherwise empty.
+    /// If the name is an entry of a crontab, the expressions that it was read as, in normal form. Otherwise empty.
     pub read_as: Vec<&'a str>,
     /// The first instant at which this timer elapses and the other timer doesn't.
     pub only: Option<Instant>,

@@ -151,7 +151,7 @@ only a.timer has RandomizedDelaySec=1h
     ),
     (
         "same|--json|2024-02-03|2024-2-3",
-        "{\n  \"same\": true,\n  \"only\": [],\n  \"settings\": []\n}\n",
+        "{\n  \"same\": true,\n  \"only\": [],\n  \"settings\": [],\n  \"read_as\": []\n}\n",
     ),
     ("due|b", ""),
     (

@@ -243,6 +243,7 @@ fn push_fault(out: &mut String, subject: &str, message: &str) -> Result<(), Allo
     out.push_str(message)
 }
 
+#[tactic(auto, unfolding(crate::specs::rules::ErrorLines::subject_line))]
 fn push_entry_fault(out: &mut String, entry: &str, fault: CronFault) -> Result<(), AllocError>
     ensures { OnOk result (string_bytes out.new ≡ string_bytes out.old ++ subject_line entry.now (cron_messages.message_of fault)) }
 {

@@ -53,8 +53,8 @@ abbrev pub HasOnly : List LoadedTimer → Loaded → Type 0
 HasOnly timers loaded =
     (loaded.timers.items ≡ timers) × (loaded.masked.items ≡ []) × (loaded.faults.items ≡ []) × (loaded.started ≡ None)
 
--- The crontabs are those of the machine (cron(8)), and each of their valid entries has a timer. It is None if crontabs
--- aren't asked for.
+-- The crontabs are those of the machine (cron(8)), and each of their valid entries has a timer. `None` means that
+-- `--cron` isn't given.
 abbrev pub AreCrontabTimersOn : Machine → Option CrontabTimers → Type 0
 AreCrontabTimersOn machine None = ⊤
 AreCrontabTimersOn machine (Some entries) =

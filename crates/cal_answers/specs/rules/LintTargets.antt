@@ -19,8 +19,8 @@ crontab_targets read machine targets = filter (is_crontab read machine) targets
 abbrev pub other_targets : (List ℕ → Result CronExprs CronFault) → Machine → List (List ℕ) → List (List ℕ)
 other_targets read machine targets = filter (λ target. not (is_crontab read machine target)) targets
 
--- these are the targets that are crontabs, and why other such targets can't be read; time fields are read as crontab(5)
--- says
+-- these are the crontabs among the targets, and the errors about those that can't be read; time fields are read as
+-- crontab(5) says
 abbrev pub AreNamedCrontabs : Machine → List (List ℕ) → Crontabs → Type 0
 AreNamedCrontabs machine targets crontabs =
     (read : (List ℕ → Result CronExprs CronFault)) × ReadsTimes read × AreCrontabsAt machine (crontab_targets read machine targets) crontabs

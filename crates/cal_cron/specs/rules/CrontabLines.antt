@@ -139,7 +139,7 @@ time_text line = take (time_end line) line
 abbrev pub is_line_feed : ℕ → Bool
 is_line_feed b = b == 10
 
--- The time of an entry that is given by itself; `read` reads time fields. A text of several lines isn't an entry, and
+-- The time of an entry that is given by itself; `read` reads time fields. A text with a line feed isn't an entry, and
 -- neither is a text with too few words.
 unfoldable pub single_entry_time : (List ℕ → Result CronExprs CronFault) → List ℕ → Result (Option CronExprs) CronFault
 single_entry_time read text = if list_any is_line_feed text then Err FieldCount else time_of (read (time_text text))

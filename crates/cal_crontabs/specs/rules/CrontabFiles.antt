@@ -1,4 +1,4 @@
--- Which files are crontabs: those that cron reads (cron(8), Debian's cron), and others by their content, which is this
+-- Which files are crontabs: those in cron's places (cron(8), Debian's cron), and others by their content, which is this
 -- project's own rule.
 use Rattle.std.specs.Prelude.{◌≡◌, ◌==◌, ◌||◌, ◌&&◌, not, ℕ, nat_eq, Bool, false, List, [], ◌∷◌, Option, None, Some, Result, codes, is_some, length, map}
 use Rattle.std.specs.List.{ends_with, flat_map, list_any}
@@ -34,7 +34,7 @@ is_directly_in folder path = is_name_if_any (after_prefix folder path)
 abbrev pub is_in_cron_folder : List ℕ → Bool
 is_in_cron_folder path = is_directly_in (codes "/etc/cron.d/") path || is_directly_in (codes "/var/spool/cron/crontabs/") path
 
--- whether cron looks for a crontab at this path
+-- whether this path is `/etc/crontab`, or directly in one of cron's folders
 abbrev pub is_cron_place : List ℕ → Bool
 is_cron_place path = bytes_eq path (codes "/etc/crontab") || is_in_cron_folder path
 
@@ -95,7 +95,7 @@ whole_crontab path (Text bytes) = crontab_of (record { path = path; bytes = byte
 abbrev pub crontabs_at : Machine → List ℕ → List Crontab
 crontabs_at machine path = whole_crontab path (file_at machine path)
 
--- these are the crontabs at these paths, and why other files among them can't be read
+-- these are the crontabs at these paths, and the errors about those that can't be read
 pub record AreCrontabsAt (machine : Machine) (paths : List (List ℕ)) (loaded : declared_crontabs.Crontabs) : Type 0 where
   pub crontabs : map shown_crontab loaded.crontabs.items ≡ flat_map (crontabs_at machine) paths
   pub faults : map shown_fault loaded.faults.items ≡ flat_map (file_faults machine) paths

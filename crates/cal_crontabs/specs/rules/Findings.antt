@@ -65,7 +65,7 @@ abbrev pub either_kinds : Option Fields → List CronFindingKind
 either_kinds None = []
 either_kinds (Some other) = EitherDay ∷ []
 
--- what is found in time fields with these expressions, or in `@reboot`
+-- the findings about an entry with these expressions; none for `@reboot`
 abbrev pub time_kinds : Option CronExprs → List CronFindingKind
 time_kinds None = []
 time_kinds (Some exprs) = never_kinds exprs ++ either_kinds exprs.other

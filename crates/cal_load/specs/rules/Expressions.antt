@@ -49,8 +49,8 @@ pub data Unread : Type 0 where
   NotExpression : (fault : SpecFault) → Unread
   NotEntry : (fault : CronFault) → Unread
 
--- The expressions of an entry, or why a text that isn't an expression (`invalid`) isn't an entry with a time either. If
--- it has too few words for an entry, the error is that of the expression.
+-- The expressions of an entry, or an error: that of the text as an expression (`invalid`) if it has too few words for
+-- an entry, and otherwise that of the entry.
 abbrev pub read_as_entry : SpecFault → Result (Option CronExprs) CronFault → Result (List Written) Unread
 read_as_entry invalid (Ok (Some exprs)) = Ok (expressions_of exprs)
 read_as_entry invalid (Ok None) = Err (NotEntry Reboot)
@@ -74,7 +74,7 @@ abbrev pub or_none : Result (List Written) Unread → List Written
 or_none (Ok found) = found
 or_none (Err why) = []
 
--- each of these texts stands for expressions, and the entries are these expressions, in order
+-- each of these texts stands for expressions, and the lines of the timer are these expressions, in order
 abbrev pub AreOf : List (List ℕ) → List (TimerLine Fields) → Type 0
 AreOf texts entries =
     (map written entries ≡ flat_map (λ text. or_none (expressions_for text)) texts)
@@ -157,7 +157,7 @@ abbrev pub reason_of : Unread → TargetReason
 reason_of (NotExpression fault) = Expression fault
 reason_of (NotEntry fault) = CrontabEntry fault
 
--- unless memory ran out, the error is that of reading a text
+-- unless memory ran out, reading the text failed, and this is its error
 abbrev pub IsParseError : Result (List Written) Unread → TargetLoadFault → Type 0
 IsParseError (Ok found) error = error ≢ faults.TheVariants.NoMemory → ⊥
 IsParseError (Err why) error = error ≢ faults.TheVariants.NoMemory → error ≡ faults.TheVariants.Target (reason_of why)

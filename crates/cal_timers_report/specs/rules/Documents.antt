@@ -63,14 +63,14 @@ setting_members unit setting = ((codes "of", string unit) ∷ (codes "setting", 
 abbrev pub setting_json : List ℕ → List ℕ → Json
 setting_json unit setting = object_of (setting_members unit setting)
 
--- an expression as which the name of a timer was read
+-- an expression that the name of a timer was read as
 abbrev pub reading_members : List ℕ → List ℕ → List (List ℕ × Json)
 reading_members unit expression = ((codes "of", string unit) ∷ (codes "expression", string expression) ∷ [])
 
 abbrev pub reading_json : List ℕ → List ℕ → Json
 reading_json unit expression = object_of (reading_members unit expression)
 
--- the expressions as which the name of this timer was read
+-- the expressions that the name of this timer was read as
 abbrev pub readings_of : SideView → List Json
 readings_of side = map (reading_json side.unit) side.read_as
 

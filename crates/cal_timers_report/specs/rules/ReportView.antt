@@ -88,7 +88,7 @@ pub record ElapseView : Type 0 where
 abbrev pub elapse_seen : UnitElapse → ElapseView
 elapse_seen elapse = record { unit = elapse.unit.now; secs = elapse.instant.secs }
 
--- one of the two timers in the report of `same`: its name, the expressions as which the name was read if it is an entry
+-- one of the two timers in the report of `same`: its name, the expressions that the name was read as if it is an entry
 -- of a crontab, and what only this timer has
 pub record SideView : Type 0 where
   pub unit : List ℕ

@@ -29,7 +29,7 @@ setting_lines side = flat_map (setting_line side.unit) side.settings
 abbrev pub reading_line : List ℕ → List ℕ → List ℕ
 reading_line unit expression = printable_text unit ++ (codes ": read as " ++ (expression ++ codes "\n"))
 
--- a line for each expression as which the name of this timer was read
+-- a line for each expression that the name of this timer was read as
 abbrev pub reading_lines : SideView → List ℕ
 reading_lines side = flat_map (reading_line side.unit) side.read_as
 

@@ -24,7 +24,7 @@ use std::alloc::{AllocError, Global};
 ///   `unix` (the elapse in seconds of Unix time).
 /// - `settings`: an array with an object for each setting that only one of the timers has. The members of the object
 ///   are `of` (the name of the timer) and `setting`.
-/// - `read_as`: an array with an object for each expression as which an entry of a crontab was read. The members of the
+/// - `read_as`: an array with an object for each expression that an entry of a crontab was read as. The members of the
 ///   object are `of` (the entry) and `expression` (in normal form).
 ///
 /// In each array, the objects of the first timer come first. Fails only if allocation fails.

@@ -1,8 +1,8 @@
 use Rattle.std.proofs.Common.{inl, inr}
 use Rattle.cal_answers.proofs.loading.load_side.Goals as goal
 
-pub returns-then-is_empty-clause-known : goal.returns-then-is_empty-clause-known
-returns-then-is_empty-clause-known g c = λ machine path shows is.
+pub returns-then-not-is_invalid_entry-clause-known : goal.returns-then-not-is_invalid_entry-clause-known
+returns-then-not-is_invalid_entry-clause-known g c = λ machine path shows is.
     inl (c.in_ok-loaded.ensures.known machine path (c.in_ok-expression-in-Some.ensures.grows machine shows) is)
 
 pub returns-else-is_empty-clause-known : goal.returns-else-is_empty-clause-known

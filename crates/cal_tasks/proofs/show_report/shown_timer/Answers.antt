@@ -33,6 +33,6 @@ returns c =
         few = c.in_ok-notes.ensures.few;
         sorted = c.in_ok-notes.ensures.sorted;
       };
-      notes = c.in_ok-settings.ensures ∙ ap (λ changes. exceptions_note (map unguarded_seen c.args.unguarded.now) c.args.timer.now ++ (map string_bytes c.args.timer.now.notes.items ++ cron_note c.args.timer.now changes)) c.as_slice.ensures.value;
-      clock = c.in_ok-clock.ensures ∙ ap (map (clock_time (expressions_in c.args.timer.now.calendar))) c.as_slice.ensures.value;
+      notes = c.in_ok-settings.ensures ∙ ap (λ changes. exceptions_note (map unguarded_seen c.args.unguarded.now) c.args.timer.now ++ (map string_bytes c.args.timer.now.notes.items ++ cron_note c.args.timer.now changes)) c.as_slice-changes.ensures.value;
+      clock = c.in_ok-clock.ensures ∙ ap (map (clock_time (expressions_in c.args.timer.now.calendar))) c.as_slice-changes.ensures.value;
     }
