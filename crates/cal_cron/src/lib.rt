@@ -30,7 +30,6 @@ pub use crontab::{
     LineFault,
 };
 pub use entries::{read_crontab, read_entry_time};
-pub use expression_texts::normal_text;
 pub use field_fault::FieldFault;
 pub use fields::read_field;
 pub use items::CronRange;

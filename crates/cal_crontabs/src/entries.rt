@@ -13,8 +13,8 @@ use crate::crontabs::Crontab;
 use crate::error_lines::push_error_line;
 use crate::lines::lines_of;
 use crate::notes::{notes_of, zone_of_assignment};
-use cal_cron::{CrontabEntry, CrontabFormat, CrontabLine, EntryTime, LineContent, normal_text};
-use cal_spec::Expr;
+use cal_cron::{CrontabEntry, CrontabFormat, CrontabLine, EntryTime, LineContent};
+use cal_spec::{Expr, normal_text};
 use std::alloc::{AllocError, Global};
 
 /// An entry of a crontab, and the settings of a timer that elapses when cron runs its command.

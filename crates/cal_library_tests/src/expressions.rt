@@ -1,8 +1,7 @@
 //! Calendar expressions: the error for each kind of invalid expression, and the normal form of valid ones.
 
 use crate::shared::{ensure, expr};
-use cal_base::Port;
-use cal_spec::{SpecFault, read_expr, write_expr};
+use cal_spec::{SpecFault, normal_text, read_expr};
 use std::alloc::Global;
 use std::test::Fail;
 
@@ -12,20 +11,10 @@ mod normal_texts;
 mod offsets;
 mod refusals;
 
-/// Returns the normal form of an expression, or `None` if writing it fails.
-fn normal_form(alloc: Global, text: &str) -> Result<Option<Vec<u8>>, Fail> {
-    let mut out = Port::new(Vec::new(alloc));
-    let expr = expr(alloc, text)?;
-    if write_expr(&mut out, &expr).is_err() {
-        return Ok(None);
-    }
-    Ok(Some(out.into_inner()))
-}
-
 /// Expects `text` to be a valid expression with this normal form.
 fn expect_normal_text(alloc: Global, text: &str, normal: &str) -> Result<(), Fail> {
-    let found = normal_form(alloc, text)?.ok_or("not written")?;
-    ensure(found.as_slice() == normal.as_bytes(), text)
+    let found = normal_text(alloc, &expr(alloc, text)?)?;
+    ensure(found.as_str() == normal, text)
 }
 
 /// Expects `text` to be rejected with this error.

@@ -7,9 +7,8 @@ ghost use Rattle.cal_spec.specs.rules.ExprText.{expr_text};
 ghost use Rattle.cal_lint.specs.rules.Systemd252.{IsNotRejected};
 
 use crate::older_systemd::systemd_252;
-use cal_bytes::Port;
 use cal_spec::laws::normal_texts_read_back;
-use cal_spec::{Expr, SpecFault, read_expr, write_expr};
+use cal_spec::{Expr, SpecFault, normal_text, read_expr};
 use std::alloc::{AllocError, Global};
 
 /// Returns an expression with the same meaning that systemd 252 accepts: `text` itself, or otherwise its normal form.
@@ -56,18 +55,4 @@ fn reads_back(expr: &Expr)
 {
     let _weekdays = expr.weekdays();
     normal_texts_read_back();
-}
-
-/// Returns the normal form of an expression. Fails only if allocation fails, since a normal form is always ASCII.
-fn normal_text(alloc: Global, expr: &Expr) -> Result<String, AllocError>
-    ensures { IfOk result (λ text. string_bytes text ≡ expr_text expr.now) }
-{
-    let mut out = Port::new(Vec::new(alloc));
-    if write_expr(&mut out, expr).is_err() {
-        return Err(AllocError);
-    }
-    match String::from_utf8(out.into_inner()) {
-        Ok(text) => Ok(text),
-        Err(_) => Err(AllocError),
-    }
 }

@@ -8,9 +8,9 @@ ghost use Rattle.cal_spec.specs.declared.slot.Slot.TheVariants.{DayFromEnd};
 ghost use Rattle.cal_lint.specs.rules.ClosedSteps.{IsClosedForm, IsClosedOf, any_open_step, has_open_step, has_same_numbers, is_open_step, is_same_field, slot_in};
 
 use crate::open_steps::{count_of, first_number, last_number};
-use cal_bytes::{Port, first_word, last_word};
+use cal_bytes::{first_word, last_word};
 use cal_civil::{begins_with_letter, begins_zone};
-use cal_spec::{Expr, Field, Part, SpecFault, read_expr, write_expr};
+use cal_spec::{Expr, Field, Part, SpecFault, normal_text, read_expr};
 use std::alloc::{AllocError, Global};
 
 /// All components, in the order of the normal form.
@@ -24,7 +24,7 @@ const FIELDS: [Field; 6] = [
 ];
 
 /// Returns an expression that elapses when `expr` does, with a range in place of each step without an end: `0..59/7`
-/// for `0/7`. The result has the layout of the normal form ([`write_expr`]).
+/// for `0/7`. The result has the layout of the normal form ([`normal_text`]).
 ///
 /// Returns `None` only if the result is longer than an expression may be; that this is the only reason isn't proved.
 /// Fails only if allocation fails.
@@ -123,7 +123,7 @@ fn is_open_step(end: Option<u16>, step: Option<u16>) -> bool
 
 /// Returns the normal form of an expression, with a range in place of each step without an end.
 fn closed_text(alloc: Global, expr: &Expr) -> Result<String, AllocError> {
-    let normal = normal_form(alloc, expr)?;
+    let normal = normal_text(alloc, expr)?;
     let mut text = String::new(alloc);
     if let Some((word, _)) = first_word(normal.as_str()) {
         if begins_with_letter(word.as_bytes()) {
@@ -142,14 +142,6 @@ fn closed_text(alloc: Global, expr: &Expr) -> Result<String, AllocError> {
         }
     }
     Ok(text)
-}
-
-fn normal_form(alloc: Global, expr: &Expr) -> Result<String, AllocError> {
-    let mut out = Port::new(Vec::new(alloc));
-    if write_expr(&mut out, expr).is_err() {
-        return Err(AllocError);
-    }
-    String::from_utf8_lossy(alloc, out.into_inner().as_slice())
 }
 
 /// Returns the text between a component of the normal form and the component before it.

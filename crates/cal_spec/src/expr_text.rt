@@ -1,6 +1,6 @@
 //! Printing of calendar expressions in their normal form (systemd.time(7), Calendar Events).
 
-ghost use Rattle.std.specs.Prelude.{◌≡◌, ◌≤◌, [], ◌∷◌, codes, drop, false, option_copied, option_map};
+ghost use Rattle.std.specs.Prelude.{◌≡◌, ◌≤◌, [], ◌∷◌, IfOk, codes, drop, false, option_copied, option_map, string_bytes};
 ghost use Rattle.std.specs.List.{flat_map};
 ghost use Rattle.cal_bytes.specs.rules.Puts.{Puts};
 ghost use Rattle.cal_bytes.specs.rules.Bytes.{joined};
@@ -12,9 +12,10 @@ ghost use Rattle.cal_spec.specs.rules.ExprText.{component_text, day_lead, expr_t
 use crate::weekday_runs::put_weekdays;
 use crate::zone_suffix::ZoneSuffix;
 use crate::{Expr, Field, Part};
-use cal_bytes::{Fill, ShortText, Sink, WriteFault, padding, put_all, put_pieces};
+use cal_bytes::{Fill, Port, ShortText, Sink, WriteFault, padding, put_all, put_pieces};
 use cal_civil::push_offset;
 use itoa::Buffer;
+use std::alloc::{AllocError, Global};
 
 /// A component to print: the text before the component, the minimum number of digits of each number in it, and its
 /// parts (`None` for `*`). Shorter numbers are padded with zeros, except steps, which are never padded.
@@ -38,6 +39,21 @@ pub fn write_expr<W: Sink>(out: &mut W, expr: &Expr) -> Result<(), WriteFault>
     put_weekdays(out, &expr.weekdays())?;
     put_rows(out, &rows(expr))?;
     put_zone(out, expr.zone())
+}
+
+/// Returns an expression in its normal form, as [`write_expr`] writes it. Fails only if allocation fails, since a normal
+/// form is always ASCII.
+pub fn normal_text(alloc: Global, expr: &Expr) -> Result<String, AllocError>
+    ensures { IfOk result (λ text. string_bytes text ≡ expr_text expr.now) }
+{
+    let mut out = Port::new(Vec::new(alloc));
+    if write_expr(&mut out, expr).is_err() {
+        return Err(AllocError);
+    }
+    match String::from_utf8(out.into_inner()) {
+        Ok(text) => Ok(text),
+        Err(_) => Err(AllocError),
+    }
 }
 
 /// Returns the components in the order in which they are printed.

@@ -28,7 +28,7 @@ mod words;
 mod zone_suffix;
 
 pub use expr::Expr;
-pub use expr_text::write_expr;
+pub use expr_text::{normal_text, write_expr};
 pub use fault_word::fault_span;
 pub use field::{Field, Part};
 pub use fields::{DateFields, Fields, TimeFields};

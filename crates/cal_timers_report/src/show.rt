@@ -29,7 +29,8 @@ use crate::cells::{LABEL_WIDTH, push_blanks, push_padded, push_printable};
 use crate::clock_lines::push_clock;
 use crate::report::{ShownLine, ShownTimer};
 use crate::style::{Emphasis, Style};
-use crate::times::{instant_width, normal_text, push_instant, push_left};
+use crate::times::{instant_width, push_instant, push_left};
+use cal_spec::normal_text;
 use cal_zone::{Instant, InstantFormatter, Zone};
 use std::alloc::{AllocError, Global};
 

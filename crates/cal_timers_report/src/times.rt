@@ -1,14 +1,12 @@
-//! Instants, the time until an instant, and calendar expressions, all as text.
+//! Instants and the time until an instant, as text.
 
 ghost use Rattle.std.specs.Prelude.{◌≡◌, ◌++◌, ◌≤ℤ◌, ◌<ℤ◌, IfOk, OnOk, codes, length, string_bytes};
 ghost use Rattle.cal_bytes.specs.rules.Separators.{words};
 ghost use Rattle.cal_zone.specs.rules.InstantText.{instant_text};
-ghost use Rattle.cal_spec.specs.rules.ExprText.{expr_text};
 ghost use Rattle.cal_timers_report.specs.rules.TimeLeft.{time_left, two_units, two_words};
 
-use cal_bytes::{Port, ShortText, first_word};
+use cal_bytes::{ShortText, first_word};
 use cal_span::{Span, format_span};
-use cal_spec::{Expr, write_expr};
 use cal_zone::{Instant, InstantFormatter, Zone};
 use std::alloc::{AllocError, Global};
 
@@ -109,20 +107,6 @@ pub(crate) fn ascii(bytes: &[u8]) -> Result<&str, AllocError>
     ensures { IfOk result (λ text. text.now ≡ bytes.now) }
 {
     match str::from_utf8(bytes) {
-        Ok(text) => Ok(text),
-        Err(_) => Err(AllocError),
-    }
-}
-
-/// Returns an expression in its normal form (systemd.time(7), Calendar Events).
-pub(crate) fn normal_text(alloc: Global, expr: &Expr) -> Result<String, AllocError>
-    ensures { IfOk result (λ text. string_bytes text ≡ expr_text expr.now) }
-{
-    let mut out = Port::new(Vec::new(alloc));
-    if write_expr(&mut out, expr).is_err() {
-        return Err(AllocError);
-    }
-    match String::from_utf8(out.into_inner()) {
         Ok(text) => Ok(text),
         Err(_) => Err(AllocError),
     }

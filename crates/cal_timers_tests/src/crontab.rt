@@ -1,7 +1,6 @@
 //! Crontabs: the expressions of time fields, or the error in them, the command of an entry with its input, what is found in
 //! entries, and the times of single entries. The expected texts are worked out by hand from crontab(5) and systemd.time(7).
 
-use cal_bytes::Port;
 use cal_cron::{
     CronFault, CrontabFormat, EntryTime, LineContent, fault_start, read_cron, read_crontab,
     read_entry_time,
@@ -9,7 +8,7 @@ use cal_cron::{
 use cal_crontabs::{CronFinding, Crontab, cron_findings};
 use cal_library_tests::shared::ensure;
 use cal_lint::open_step_flaw;
-use cal_spec::{Expr, write_expr};
+use cal_spec::{Expr, normal_text};
 use std::alloc::Global;
 use std::test::Fail;
 
@@ -99,15 +98,7 @@ static TIME_FIELDS: [(&str, &str); 68] = [
 /// Appends the normal form of an expression in which systemd 252 computes all steps correctly.
 fn push_expr(alloc: Global, out: &mut String, expr: &Expr) -> Result<(), Fail> {
     ensure(open_step_flaw(expr).is_none(), "a step without an end")?;
-    let mut port = Port::new(Vec::new(alloc));
-    if write_expr(&mut port, expr).is_err() {
-        return Err("not written".into());
-    }
-    let bytes = port.into_inner();
-    let Ok(text) = str::from_utf8(bytes.as_slice()) else {
-        return Err("not UTF-8".into());
-    };
-    out.push_str(text)?;
+    out.push_str(normal_text(alloc, expr)?.as_str())?;
     Ok(())
 }
 

@@ -9,10 +9,10 @@ ghost use Rattle.cal_timers_report.specs.rules.JsonParts.{integer};
 ghost use Rattle.cal_timers_report.specs.rules.JsonTimes.{left_span, local_time_text, nearest_instant, span_between, utc_clock_text};
 
 use crate::documents::to_json::{ToJson, put_signed};
-use crate::times::{ascii, normal_text};
+use crate::times::ascii;
 use cal_bytes::ShortText;
 use cal_span::{Span, format_span};
-use cal_spec::Expr;
+use cal_spec::{Expr, normal_text};
 use cal_zone::{Instant, Zone, push_instant};
 use json::{Pretty, Token};
 use std::alloc::{AllocError, Global};
