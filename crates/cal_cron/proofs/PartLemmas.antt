@@ -67,7 +67,7 @@ goes_on_by slot r true up is test =
     second_within slot r.first r.step up (omega arith)
 goes_on_by slot r false up is test = tt
 
-pub part_valid : (slot : Slot) (r : CronRange) → IsUpward slot → IsIn slot r → IsValidPart slot (part_of slot r)
+part_valid : (slot : Slot) (r : CronRange) → IsUpward slot → IsIn slot r → IsValidPart slot (part_of slot r)
 unfolding part_of
 part_valid slot r up is = record {
   start_in = (is.from, let a = is.forward in let b = is.to in omega arith);
@@ -79,7 +79,7 @@ part_valid slot r up is = record {
 
 -- ## Components
 
-pub parts_valid : (slot : Slot) (rs : List CronRange) → IsUpward slot → AllByRecursion (IsIn slot) rs → AllByRecursion (IsValidPart slot) (map (part_of slot) rs)
+parts_valid : (slot : Slot) (rs : List CronRange) → IsUpward slot → AllByRecursion (IsIn slot) rs → AllByRecursion (IsValidPart slot) (map (part_of slot) rs)
 parts_valid slot [] up each = tt
 parts_valid slot (r ∷ rs) up each = (part_valid slot r up each.0, parts_valid slot rs up each.1)
 

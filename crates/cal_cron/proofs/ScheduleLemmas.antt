@@ -25,7 +25,7 @@ use Rattle.cal_spec.specs.rules.NormalForm.{normal_from_end, part_cmp, point}
 use Rattle.cal_spec.specs.rules.ValidFields.{IsValidComponent, IsValidFields}
 use Rattle.cal_spec.specs.declared.field.Part.{Part}
 use Rattle.cal_spec.specs.declared.slot.Slot.TheVariants.{Month, Day, Hour, Minute, Second}
-use Rattle.cal_cron.proofs.NormalLemmas.{HasNormal, component_same}
+use Rattle.cal_cron.proofs.NormalLemmas.{component_same}
 use Rattle.cal_cron.proofs.PartLemmas.{component_few, component_valid}
 use Rattle.cal_cron.proofs.WeekdayLemmas.{some_weekday, week_length, week_same, weekday_same}
 use Rattle.cal_cron.specs.computed.Schedules.{IsSchedule}
@@ -90,12 +90,12 @@ zero_second : (v : ℕ) → component_has Second (normal_second (Some (point 0 �
 unfolding part_has normal_second normal_parts reduced part_cmp
 zero_second v = or_none (nat_eq v 0)
 
-time_same : HasNormal → (s : Schedule) (weekdays : List Bool) (day : Option (List Part)) (second : ℕ) → IsSchedule s
+time_same : (s : Schedule) (weekdays : List Bool) (day : Option (List Part)) (second : ℕ) → IsSchedule s
     → time_in (sets_of (normal_fields (fields_at s weekdays day))) second ≡ cron_time s second
 unfolding time_in sets_of fields_at cron_time normal_fields
-time_same normal s weekdays day second is =
-    let hour = component_same normal Hour s.hour (second / 3_600) tt is.hour in
-    let minute = component_same normal Minute s.minute (second / 60 % 60) tt is.minute in
+time_same s weekdays day second is =
+    let hour = component_same Hour s.hour (second / 3_600) tt is.hour in
+    let minute = component_same Minute s.minute (second / 60 % 60) tt is.minute in
     let none = zero_second (second % 60) in
     rw (hour, minute, none) refl
 
@@ -114,35 +114,35 @@ from_start : (day : Option (List Part)) → normal_from_end false day ≡ false
 from_start None = refl
 from_start (Some parts) = refl
 
-date_same : HasNormal → (s : Schedule) (weekdays : List Bool) (day : Option (List Part)) (date : Date) → IsSchedule s → IsBetween (pos 1970) (pos 2199) date.year
+date_same : (s : Schedule) (weekdays : List Bool) (day : Option (List Part)) (date : Date) → IsSchedule s → IsBetween (pos 1970) (pos 2199) date.year
     → date_in (sets_of (normal_fields (fields_at s weekdays day))) date
     ≡ (get_or weekdays (weekday_of date) false && (field_has s.month date.month && component_has Day (normal_component day) date.day))
 unfolding date_in sets_of fields_at normal_fields
-date_same normal s weekdays day date is between =
+date_same s weekdays day date is between =
     let year = year_in date.year between.0 between.1 in
-    let month = component_same normal Month s.month date.month tt is.month in
+    let month = component_same Month s.month date.month tt is.month in
     rw (year, month, from_start day) refl
 
 -- whether a local second matches, given whether it is in range, and whether its date and its time match
 abbrev at_most : Bool → Bool → Bool → Bool
 at_most small date time = small && (date && time)
 
-match_by : HasNormal → (s : Schedule) (weekdays : List Bool) (day : Option (List Part)) (local : ℕ) (small : Bool) → IsSchedule s → nat_lt local seconds_in_all ≡ small
+match_by : (s : Schedule) (weekdays : List Bool) (day : Option (List Part)) (local : ℕ) (small : Bool) → IsSchedule s → nat_lt local seconds_in_all ≡ small
     → at_most small (date_in (sets_of (normal_fields (fields_at s weekdays day))) (civil_date (local / 86_400))) (time_in (sets_of (normal_fields (fields_at s weekdays day))) (local % 86_400))
     ≡ at_most small (get_or weekdays (weekday_of (civil_date (local / 86_400))) false && (field_has s.month (civil_date (local / 86_400)).month && component_has Day (normal_component day) (civil_date (local / 86_400)).day)) (cron_time s (local % 86_400))
-match_by normal s weekdays day local false is test = refl
-match_by normal s weekdays day local true is test =
-    let date = date_same normal s weekdays day (civil_date (local / 86_400)) is (year_of_local local (ltb-true _ _ test)) in
-    let time = time_same normal s weekdays day (local % 86_400) is in
+match_by s weekdays day local false is test = refl
+match_by s weekdays day local true is test =
+    let date = date_same s weekdays day (civil_date (local / 86_400)) is (year_of_local local (ltb-true _ _ test)) in
+    let time = time_same s weekdays day (local % 86_400) is in
     rw (date, time) refl
 
-match_same : HasNormal → (s : Schedule) (weekdays : List Bool) (day : Option (List Part)) (local : ℕ) (w d : Bool) → IsSchedule s
+match_same : (s : Schedule) (weekdays : List Bool) (day : Option (List Part)) (local : ℕ) (w d : Bool) → IsSchedule s
     → get_or weekdays (weekday_of (civil_date (local / 86_400))) false ≡ w → component_has Day (normal_component day) (civil_date (local / 86_400)).day ≡ d
     → matches (sets_of (normal_fields (fields_at s weekdays day))) local
     ≡ at_most (nat_lt local seconds_in_all) (w && (field_has s.month (civil_date (local / 86_400)).month && d)) (cron_time s (local % 86_400))
 unfolding matches
-match_same normal s weekdays day local w d is weekday number =
-    match_by normal s weekdays day local (nat_lt local seconds_in_all) is refl ∙ rw (weekday, number) refl
+match_same s weekdays day local w d is weekday number =
+    match_by s weekdays day local (nat_lt local seconds_in_all) is refl ∙ rw (weekday, number) refl
 
 -- ## Both or one of the two fields match
 
@@ -160,44 +160,44 @@ chosen s star =
       other = Some (normal_fields (fields_at s (weekdays_of s.weekday) None));
     })
 
-exprs_by : (s : Schedule) (local : ℕ) (star : Bool) → HasNormal → IsSchedule s → exprs_match (chosen s star).first (chosen s star).other local
+exprs_by : (s : Schedule) (local : ℕ) (star : Bool) → IsSchedule s → exprs_match (chosen s star).first (chosen s star).other local
     ≡ at_most (nat_lt local seconds_in_all) (field_has s.month (civil_date (local / 86_400)).month && day_matches star (field_has s.day (civil_date (local / 86_400)).day) (weekday_has s.weekday (weekday_of (civil_date (local / 86_400))))) (cron_time s (local % 86_400))
-exprs_by s local true normal is =
+exprs_by s local true is =
     let date = civil_date (local / 86_400) in
     let weekday = weekday_same s.weekday (weekday_of date) (weekday_number_bound (epoch_day date)) in
-    let day = component_same normal Day s.day date.day tt is.day in
-    let first = match_same normal s (weekdays_of s.weekday) (component_of Day s.day) local (weekday_has s.weekday (weekday_of date)) (field_has s.day date.day) is weekday day in
+    let day = component_same Day s.day date.day tt is.day in
+    let first = match_same s (weekdays_of s.weekday) (component_of Day s.day) local (weekday_has s.weekday (weekday_of date)) (field_has s.day date.day) is weekday day in
     ap (λ b. b || false) first
     ∙ both_fields (nat_lt local seconds_in_all) (weekday_has s.weekday (weekday_of date)) (field_has s.month date.month) (field_has s.day date.day) (cron_time s (local % 86_400))
-exprs_by s local false normal is =
+exprs_by s local false is =
     let date = civil_date (local / 86_400) in
     let weekday = weekday_same s.weekday (weekday_of date) (weekday_number_bound (epoch_day date)) in
     let all = week_same (weekday_of date) (weekday_number_bound (epoch_day date)) in
-    let day = component_same normal Day s.day date.day tt is.day in
-    let first = match_same normal s all_week (component_of Day s.day) local true (field_has s.day date.day) is all day in
-    let other = match_same normal s (weekdays_of s.weekday) None local (weekday_has s.weekday (weekday_of date)) true is weekday (every_day date) in
+    let day = component_same Day s.day date.day tt is.day in
+    let first = match_same s all_week (component_of Day s.day) local true (field_has s.day date.day) is all day in
+    let other = match_same s (weekdays_of s.weekday) None local (weekday_has s.weekday (weekday_of date)) true is weekday (every_day date) in
     ap (λ b. b || matches (sets_of (normal_fields (fields_at s (weekdays_of s.weekday) None))) local) first
     ∙ ap (λ b. at_most (nat_lt local seconds_in_all) (true && (field_has s.month date.month && field_has s.day date.day)) (cron_time s (local % 86_400)) || b) other
     ∙ one_field (nat_lt local seconds_in_all) (weekday_has s.weekday (weekday_of date)) (field_has s.month date.month) (field_has s.day date.day) (cron_time s (local % 86_400))
 
-pub exprs_same : HasNormal → (s : Schedule) (local : ℕ) → IsSchedule s → exprs_match (exprs_of s).first (exprs_of s).other local ≡ cron_matches s local
+pub exprs_same : (s : Schedule) (local : ℕ) → IsSchedule s → exprs_match (exprs_of s).first (exprs_of s).other local ≡ cron_matches s local
 unfolding exprs_of cron_matches cron_date
-exprs_same normal s local is = exprs_by s local s.star normal is
+exprs_same s local is = exprs_by s local s.star is
 
-result_runs : HasNormal → (text : List ℕ) (s : Schedule) (e : CronExprs) → IsLine text s → ◌≡◌ {A = Result CronExprs CronFault} (Ok (exprs_of s)) (Ok e) → RunsAs text e.first e.other
-result_runs normal text s e line is =
+result_runs : (text : List ℕ) (s : Schedule) (e : CronExprs) → IsLine text s → ◌≡◌ {A = Result CronExprs CronFault} (Ok (exprs_of s)) (Ok e) → RunsAs text e.first e.other
+result_runs text s e line is =
     let same : exprs_of s ≡ e = cc in
-    rw (← same) (record { schedule = s; line = line; same = λ local. exprs_same normal s local (sound text s line) })
+    rw (← same) (record { schedule = s; line = line; same = λ local. exprs_same s local (sound text s line) })
 
-pub ok_runs : HasNormal → (text : List ℕ) (e : CronExprs) → exprs_in text ≡ Ok e → RunsAs text e.first e.other
+pub ok_runs : (text : List ℕ) (e : CronExprs) → exprs_in text ≡ Ok e → RunsAs text e.first e.other
 unfolding exprs_in
-ok_runs normal text e at =
+ok_runs text e at =
     let read = bind_ok (line_in text) (λ s. Ok (exprs_of s)) e at in
-    result_runs normal text read.value e (line_found text read.value read.first) read.next
+    result_runs text read.value e (line_found text read.value read.first) read.next
 
-pub cron_runs : HasNormal → (r : Result declared_exprs.CronExprs CronFault) (text : List ℕ) → LineGivesUnlessNoMemory shown_exprs r (exprs_in text) → IfOk r (λ e. RunsAs text e.first e.other)
-cron_runs normal (Ok e) text gives = ok_runs normal text (shown_exprs e) gives
-cron_runs normal (Err fault) text gives = tt
+pub cron_runs : (r : Result declared_exprs.CronExprs CronFault) (text : List ℕ) → LineGivesUnlessNoMemory shown_exprs r (exprs_in text) → IfOk r (λ e. RunsAs text e.first e.other)
+cron_runs (Ok e) text gives = ok_runs text (shown_exprs e) gives
+cron_runs (Err fault) text gives = tt
 
 rejected_by : (text : List ℕ) (s : Schedule) (fault : CronFault) → exprs_in text ≡ Err fault → IsLine text s → ⊥
 unfolding exprs_in

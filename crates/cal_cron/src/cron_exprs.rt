@@ -14,7 +14,6 @@ use crate::CronFault;
 use crate::lines::{CronLine, read_line};
 use crate::parts::component_of;
 use crate::weekdays::weekdays_of;
-use cal_spec::laws::one_normal_component;
 use cal_spec::{DateFields, Expr, Fields, Part, Slot, TimeFields};
 use std::alloc::Global;
 
@@ -38,7 +37,6 @@ pub fn read_cron(alloc: Global, text: &str) -> Result<CronExprs, CronFault>
     ensures runs { IfOk result (λ exprs. RunsAs text.now exprs.first exprs.other) }
     ensures rejected { IfErr result (λ fault. (fault ≡ NoMemory → ⊥) → (s : Schedule) → IsLine text.now s → ⊥) }
 {
-    one_normal_component();
     read_exprs(alloc, text)
 }
 

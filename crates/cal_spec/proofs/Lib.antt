@@ -1,8 +1,6 @@
 mod FaultRows
 mod LengthLemmas
-mod MemberLemmas
 mod NormalFieldsLemmas
-mod NormalLemmas
 mod NormalRows
 mod OrderLemmas
 mod ReadBack
@@ -21,6 +19,8 @@ pub mod ExprRule
 pub mod FaultSpanLemmas
 pub mod FieldLemmas
 pub mod GrammarFaults
+pub mod MemberLemmas
+pub mod NormalLemmas
 pub mod PartFaults
 pub mod PartRule
 pub mod ReadBackParts

@@ -12,7 +12,7 @@ unfolding exprs_in
 returns-clause-some c = λ text s is. ap (λ r. r >>= λ t. Ok (exprs_of t)) (line_only text s is)
 
 pub returns-clause-same : goal.returns-clause-same
-returns-clause-same c = λ text s local is. exprs_same c.one_normal_component.ensures.some s local (sound text s is)
+returns-clause-same c = λ text s local is. exprs_same s local (sound text s is)
 
 pub returns-clause-only : goal.returns-clause-only
 unfolding exprs_in
