@@ -5,11 +5,12 @@ ghost use Rattle.cal_timer.specs.rules.TimerView.{shown_assignment};
 ghost use Rattle.cal_lint.specs.rules.IgnoredValues.{ignored_setting};
 
 use cal_read::Assignment;
-use cal_settings::{SettingKind, is_taken_as, kind_of};
+use cal_settings::is_taken_as;
+use cal_timer::{KeyKind, kind_of};
 
 /// Returns the kind of the setting if systemd ignores the assignment because of its value. An empty value that clears
 /// the monotonic timers isn't ignored.
-pub(crate) fn ignored_setting(assignment: Assignment<'_>) -> Option<SettingKind>
+pub(crate) fn ignored_setting(assignment: Assignment<'_>) -> Option<KeyKind>
     ensures { result ≡ ignored_setting (shown_assignment assignment.entry) }
 {
     let kind = kind_of(assignment.key)?;

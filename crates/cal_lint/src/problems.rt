@@ -26,7 +26,7 @@ use cal_read::{
     Assignment, FileFault, NumberedText, TimerFault, find_faults, first_logical, read_assignment,
     trim, without_mark,
 };
-use cal_settings::SettingKind;
+use cal_timer::KeyKind;
 use std::alloc::{AllocError, Global};
 
 /// How serious a problem is.
@@ -71,7 +71,7 @@ pub enum Problem {
     /// or an alias that isn't the name of a timer.
     BadUnitName,
     /// systemd ignores the setting, which is of this kind, because of its value.
-    IgnoredValue(SettingKind),
+    IgnoredValue(KeyKind),
     /// systemd 252 computes the elapses of the expression wrongly, because of a step without an end.
     OpenStep(OpenStepFlaw),
 }

@@ -7,7 +7,7 @@ ghost use Rattle.cal_lint.specs.rules.UnknownKeys.{is_install_key, is_known_key,
 
 use crate::sections::Section;
 use cal_bytes::is_among;
-use cal_settings::kind_of;
+use cal_timer::kind_of;
 
 /// The keys of the section `Unit` that systemd 252 knows, in the order in which `systemd --dump-configuration-items`
 /// prints them.
@@ -136,10 +136,6 @@ const INSTALL_KEYS: [&[u8]; 5] = [
     b"DefaultInstance",
 ];
 
-/// The keys of the section `Timer` whose values are expressions. `X-ExceptOnCalendar` is this project's key for
-/// exceptions.
-const EXPRESSION_KEYS: [&[u8]; 2] = [b"OnCalendar", b"X-ExceptOnCalendar"];
-
 /// Returns whether neither systemd 252 nor this project knows the key in this section.
 ///
 /// systemd ignores keys that begin with `X-` (systemd.unit(5)), so they don't count as unknown, unless they are in the
@@ -179,7 +175,7 @@ fn is_install_key(key: &str) -> bool
 fn is_timer_key(key: &str) -> bool
     ensures { result ≡ is_timer_key key.now }
 {
-    kind_of(key).is_some() || is_among(&EXPRESSION_KEYS, key.as_bytes())
+    kind_of(key).is_some()
 }
 
 /// Returns whether a key in this section may be a misspelled `X-ExceptOnCalendar`.

@@ -1,34 +1,20 @@
 -- Lemmas on reading the expressions and exceptions of a timer, one assignment at a time.
-use Rattle.std.proofs.Common.{◌≡◌, ◌∙◌, ◌+◌, ◌<◌, ◌||◌, ℕ, Bool, true, false, not, List, [], ◌∷◌, ◌++◌, Option, None, Some, ap, append-nil, append_assoc, codes, filter, get_or, length, map, refl, subst, sym, take}
-use Rattle.std.proofs.lemmas.Bool.{and_parts, and_right, false_from_ne_true}
+use Rattle.std.proofs.Common.{◌≡◌, ◌∙◌, ◌+◌, ◌<◌, ◌||◌, ℕ, Bool, true, false, List, [], ◌∷◌, ◌++◌, Option, None, Some, ap, append-nil, append_assoc, filter, get_or, length, map, refl, subst, sym, take}
 use Rattle.std.proofs.lemmas.List.{map-append, take_more}
 use Rattle.std.proofs.lemmas.List.Elements.{filter-append, filter_map-append}
-use Rattle.std.proofs.lemmas.Slice.Eq.{bytes_eq-Decides}
 use Rattle.std.specs.List.{cons_option, filter_map}
 use Rattle.std.specs.Option.{option_to_list}
-use Rattle.std.specs.Str.{bytes_eq}
 use Rattle.cal_read.specs.declared.section_assignments.OwnedAssignment.{OwnedAssignment}
 use Rattle.cal_read.specs.rules.SectionAssignments.{shown_owned_assignment}
 use Rattle.cal_spec.specs.computed.Expr.{expr_in}
-use Rattle.cal_timer.proofs.ListedLemmas.{Kept, exception_is_no_exception_reset, expression_is_no_reset, kept_more, kept_other, kept_reset}
+use Rattle.cal_timer.proofs.ListedLemmas.{Kept, exception_is_no_exception_reset, expression_is_no_exception, expression_is_no_reset, kept_more, kept_other, kept_reset}
 use Rattle.cal_timer.specs.rules.Assignments.{Assignment}
 use Rattle.cal_timer.specs.rules.TimerEntries.{entries_of, entry_of}
-use Rattle.cal_timer.specs.rules.TimerText.{excepted, exception_key, has_no_value, is_exception, is_exception_reset, is_expression, is_reset, listed}
+use Rattle.cal_timer.specs.rules.TimerText.{excepted, is_exception, is_exception_reset, is_expression, is_reset, listed}
 use Rattle.cal_timer.specs.rules.TimerView.{shown}
 use Rattle.cal_load.specs.declared.calendar.CalendarLines.{CalendarLines}
 use Rattle.cal_load.specs.declared.calendar.IgnoredLine.{IgnoredLine}
 use Rattle.cal_load.specs.rules.Loaded.{AreReadFrom, entries_after, ignored_in, ignored_line, ignored_more}
-
--- no assignment is both an expression and an exception, because their keys differ
-expression_is_no_exception : (a : Assignment) → is_expression a ≡ true → is_exception a ≡ false
-unfolding is_expression is_exception
-expression_is_no_exception a e =
-    and_right (not (has_no_value a)) (bytes_eq a.key exception_key)
-    (false_from_ne_true (bytes_eq a.key exception_key) (λ h.
-    let same : a.key ≡ exception_key = (bytes_eq-Decides a.key exception_key).0 h in
-    let other : bytes_eq a.key (codes "OnCalendar") ≡ false = subst (λ (key : List ℕ). bytes_eq key (codes "OnCalendar") ≡ false) (sym same) refl in
-    let here = (and_parts (not (has_no_value a)) _ e).1 in
-    absurd (cc)))
 
 -- after one more assignment, the entries of a list are those that `entries_after` returns
 list_by : (adds resets : Assignment → Bool) (before : List Assignment) (a : Assignment) (c d : Bool) → adds a ≡ c → resets a ≡ d → (c ≡ true → d ≡ false)

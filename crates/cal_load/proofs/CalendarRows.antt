@@ -5,6 +5,7 @@ use Rattle.std.specs.Prelude.{if◌then◌else◌}
 use Rattle.cal_spec.specs.declared.spec_fault.SpecFault.{SpecFault}
 use Rattle.cal_spec.specs.declared.spec_fault.SpecFault.TheVariants.{NoRepeat}
 use Rattle.cal_timer.specs.rules.Assignments.{Assignment}
+use Rattle.cal_timer.specs.rules.Keys.{keys_of, kind_of}
 use Rattle.cal_timer.specs.rules.TimerEntries.{TimerLine, entries_of}
 use Rattle.cal_timer.specs.rules.TimerText.{excepted, is_exception, is_exception_reset, is_expression, is_reset, listed}
 use Rattle.cal_load.specs.declared.calendar.IgnoredLine.{IgnoredLine}
@@ -33,13 +34,13 @@ settings =
     ∷ setting 10 (codes "OnCalendar") (codes "18:00") ∷ []
 
 expressions : entries_of read (listed settings) ≡ entry 6 (codes "12:00") ∷ entry 10 (codes "18:00") ∷ []
-unfolding listed is_expression is_reset
+unfolding listed is_expression is_reset kind_of keys_of
 expressions = refl
 
 exceptions : entries_of read (excepted settings) ≡ entry 4 (codes "06:00") ∷ []
-unfolding excepted is_exception is_exception_reset
+unfolding excepted is_exception is_exception_reset kind_of keys_of
 exceptions = refl
 
 ignored : ignored_in read settings ≡ bad 2 ∷ bad 7 ∷ bad 9 ∷ []
-unfolding ignored_in is_expression is_exception
+unfolding ignored_in is_expression is_exception kind_of keys_of
 ignored = refl

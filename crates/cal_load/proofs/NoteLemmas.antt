@@ -8,9 +8,9 @@ use Rattle.cal_read.specs.declared.section_assignments.OwnedAssignment.{OwnedAss
 use Rattle.cal_read.specs.rules.SectionAssignments.{shown_owned_assignment}
 use Rattle.cal_timer.specs.rules.Assignments.{Assignment}
 use Rattle.cal_timer.specs.rules.TimerText.{is_reset}
-use Rattle.cal_settings.specs.declared.setting_kind.SettingKind.{SettingKind}
-use Rattle.cal_settings.specs.declared.setting_kind.SettingKind.TheVariants.{Monotonic, Change, Switch, Delay, Accuracy, Started, Flag}
-use Rattle.cal_settings.specs.rules.Settings.{kind_of}
+use Rattle.cal_timer.specs.declared.keys.KeyKind.{KeyKind}
+use Rattle.cal_timer.specs.declared.keys.KeyKind.TheVariants.{SpanTrigger, ChangeTrigger, CalendarTrigger, Exception, TimingBoolean, OtherBoolean, Delay, Accuracy, StartedUnit}
+use Rattle.cal_timer.specs.rules.Keys.{kind_of}
 use Rattle.cal_load.specs.rules.Notes.{is_noted, is_noted_as, is_taken, kept_in, kept_with, noted_of, replaces, service_of, starts, starts_as, undoes, unit_line}
 
 kept_first : (s : Bool) (a : Assignment) → (if s && true then (a ∷ []) else []) ≡ (if s then (a ∷ []) else [])
@@ -90,16 +90,18 @@ only_noted own service unit old new same line e =
     ∙ ap (λ at. filter (is_noted (service_of own) at) kept) line
 
 -- an assignment that starts the unit is noted
-starting_as : (kind : Option SettingKind) (service : List ℕ) (unit : Option ℕ) (a : Assignment) → starts_as kind a.value ≡ true
+starting_as : (kind : Option KeyKind) (service : List ℕ) (unit : Option ℕ) (a : Assignment) → starts_as kind a.value ≡ true
     → is_noted_as kind service unit a ≡ true
 starting_as None service unit a e = absurd (cc)
-starting_as (Some Monotonic) service unit a e = refl
-starting_as (Some Change) service unit a e = e
-starting_as (Some Switch) service unit a e = absurd (cc)
+starting_as (Some SpanTrigger) service unit a e = refl
+starting_as (Some ChangeTrigger) service unit a e = e
+starting_as (Some CalendarTrigger) service unit a e = absurd (cc)
+starting_as (Some Exception) service unit a e = absurd (cc)
+starting_as (Some TimingBoolean) service unit a e = absurd (cc)
 starting_as (Some Delay) service unit a e = absurd (cc)
 starting_as (Some Accuracy) service unit a e = absurd (cc)
-starting_as (Some Started) service unit a e = absurd (cc)
-starting_as (Some Flag) service unit a e = absurd (cc)
+starting_as (Some StartedUnit) service unit a e = absurd (cc)
+starting_as (Some OtherBoolean) service unit a e = absurd (cc)
 
 starting : (service : List ℕ) (unit : Option ℕ) (a : Assignment) → starts a ≡ true → is_noted service unit a ≡ true
 unfolding starts is_noted

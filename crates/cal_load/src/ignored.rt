@@ -17,7 +17,8 @@ use crate::notes::{is_taken, kept_of, last_part, unit_line};
 use crate::resolved::{Resolved, resolve};
 use crate::texts::read_files;
 use cal_read::OwnedAssignment;
-use cal_settings::{SettingKind, has_percent, kind_of};
+use cal_settings::has_percent;
+use cal_timer::{KeyKind, kind_of};
 use cal_unit_index::UnitText;
 use std::alloc::{AllocError, Global};
 
@@ -25,7 +26,7 @@ use std::alloc::{AllocError, Global};
 #[derive(Clone, Copy, Debug)]
 pub enum WhyIgnored {
     /// With its specifiers filled in, the value isn't valid for a setting of this kind.
-    BadValue(SettingKind),
+    BadValue(KeyKind),
     /// `Unit=` names the timer itself.
     OwnName,
     /// A `Unit=` above this one counts, so systemd ignores this one, whatever its value is.
@@ -155,10 +156,10 @@ fn why_ignored(
     ensures { IfOk result (λ why. why ≡ why_ignored name.now counted (shown_owned_assignment assignment)) }
 {
     match kind_of(assignment.key.as_str()) {
-        Some(SettingKind::Monotonic) => {
-            value_fault(alloc, SettingKind::Monotonic, name, assignment)
+        Some(KeyKind::SpanTrigger) => {
+            value_fault(alloc, KeyKind::SpanTrigger, name, assignment)
         }
-        Some(SettingKind::Started) => unit_fault(alloc, name, counted, assignment),
+        Some(KeyKind::StartedUnit) => unit_fault(alloc, name, counted, assignment),
         _ => Ok(None),
     }
 }
@@ -177,7 +178,7 @@ fn unit_fault(
         return Ok(Some(WhyIgnored::SecondUnit));
     }
     let copy = copy_of(alloc, &assignment)?;
-    match value_fault(alloc, SettingKind::Started, name, copy)? {
+    match value_fault(alloc, KeyKind::StartedUnit, name, copy)? {
         Some(why) => Ok(Some(why)),
         None => name_fault(alloc, name, assignment),
     }
@@ -196,7 +197,7 @@ fn copy_of(alloc: Global, assignment: &OwnedAssignment) -> Result<OwnedAssignmen
 /// Returns [`WhyIgnored::BadValue`] if the assignment has specifiers and its value isn't valid once they are filled in.
 fn value_fault(
     alloc: Global,
-    kind: SettingKind,
+    kind: KeyKind,
     name: &str,
     assignment: OwnedAssignment,
 ) -> Result<Option<WhyIgnored>, AllocError>

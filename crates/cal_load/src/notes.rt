@@ -4,16 +4,17 @@
 
 ghost use Rattle.std.specs.Prelude.{◌≡◌, IfOk, OnOk, filter, map, not, string_bytes};
 ghost use Rattle.std.specs.List.{list_any, slice_split};
+ghost use Rattle.cal_timer.specs.rules.Keys.{kind_of};
 ghost use Rattle.cal_timer.specs.rules.TimerText.{is_reset};
 ghost use Rattle.cal_read.specs.rules.SectionAssignments.{shown_owned_assignment};
 ghost use Rattle.cal_unit_index.specs.rules.Destinations.{last_part};
 ghost use Rattle.cal_unit_index.specs.rules.SearchPath.{is_slash};
 ghost use Rattle.cal_unit_index.specs.rules.UnitName.{without_suffix};
-ghost use Rattle.cal_settings.specs.rules.Settings.{kind_of};
 ghost use Rattle.cal_load.specs.rules.Notes.{is_at, is_monotonic, is_noted, is_started, is_taken, kept_in, kept_with, last_counts, names_unit, note_text, noted_of, notes_in, replaces, service_of, starts, starts_unit, undoes, unit_line};
 
 use cal_read::{Assignment, OwnedAssignment};
-use cal_settings::{SettingKind, is_longer, is_taken_as, is_yes, kind_of};
+use cal_settings::{is_longer, is_taken_as, is_yes};
+use cal_timer::{KeyKind, kind_of};
 use std::alloc::{AllocError, Global};
 
 /// How accurate a timer is by default, in microseconds: one minute.
@@ -53,8 +54,8 @@ pub(crate) fn notes_of(
     Ok(notes)
 }
 
-/// Returns the assignments that have a key that can be noted and a value that systemd accepts, except those that a
-/// later assignment undoes.
+/// Returns the assignments that have a known key and a value that systemd accepts, except those that a later assignment
+/// undoes. The values of expressions and exceptions aren't examined.
 pub(crate) fn kept_of(
     alloc: Global,
     assignments: Vec<OwnedAssignment>,
@@ -105,7 +106,7 @@ fn undoes(later: &OwnedAssignment, earlier: &OwnedAssignment) -> bool
 fn is_monotonic(key: &str) -> bool
     ensures { result ≡ is_monotonic (kind_of key.now) }
 {
-    matches!(kind_of(key), Some(SettingKind::Monotonic))
+    matches!(kind_of(key), Some(KeyKind::SpanTrigger))
 }
 
 /// Returns whether the assignment clears the timer's expressions and monotonic timers: whether it is an `OnCalendar=`
@@ -131,19 +132,20 @@ fn replaces(assignment: &OwnedAssignment) -> bool
 }
 
 /// Returns whether only the last of several assignments with the same key counts, if the key is of this kind.
-fn last_counts(kind: Option<SettingKind>) -> bool
+fn last_counts(kind: Option<KeyKind>) -> bool
     ensures { result ≡ last_counts kind }
 {
     match kind {
-        Some(SettingKind::Change) => true,
-        Some(SettingKind::Switch) => true,
-        Some(SettingKind::Delay) => true,
-        Some(SettingKind::Accuracy) => true,
+        Some(KeyKind::ChangeTrigger) => true,
+        Some(KeyKind::TimingBoolean) => true,
+        Some(KeyKind::Delay) => true,
+        Some(KeyKind::Accuracy) => true,
         _ => false,
     }
 }
 
-/// Returns whether the assignment has a key that can be noted and a value that systemd accepts.
+/// Returns whether the assignment has a known key and a value that systemd accepts. The values of expressions and
+/// exceptions aren't examined.
 #[tactic(auto, unfolding(crate::specs::rules::Notes::is_taken))]
 pub(crate) fn is_taken(assignment: &OwnedAssignment) -> bool
     ensures { result ≡ is_taken (shown_owned_assignment assignment.now) }
@@ -220,10 +222,10 @@ pub(crate) fn names_unit(own: &str, assignment: &OwnedAssignment) -> bool
     is_started(assignment.key.as_str()) && assignment.value.as_str() != own
 }
 
-fn is_started(key: &str) -> bool
+pub(crate) fn is_started(key: &str) -> bool
     ensures { result ≡ is_started (kind_of key.now) }
 {
-    matches!(kind_of(key), Some(SettingKind::Started))
+    matches!(kind_of(key), Some(KeyKind::StartedUnit))
 }
 
 /// Returns whether a kept assignment is noted. `service` is the unit that the timer starts by default, and `unit` is
@@ -234,14 +236,12 @@ fn is_noted(service: &str, unit: Option<u32>, assignment: &OwnedAssignment) -> b
 {
     let value = assignment.value.as_str();
     match kind_of(assignment.key.as_str()) {
-        None => false,
-        Some(SettingKind::Monotonic) => true,
-        Some(SettingKind::Change) => is_yes(value),
-        Some(SettingKind::Switch) => is_yes(value),
-        Some(SettingKind::Delay) => is_longer(0, value),
-        Some(SettingKind::Accuracy) => is_longer(DEFAULT_ACCURACY, value),
-        Some(SettingKind::Started) => is_at(unit, assignment.number) && value != service,
-        Some(SettingKind::Flag) => false,
+        Some(KeyKind::SpanTrigger) => true,
+        Some(KeyKind::ChangeTrigger | KeyKind::TimingBoolean) => is_yes(value),
+        Some(KeyKind::Delay) => is_longer(0, value),
+        Some(KeyKind::Accuracy) => is_longer(DEFAULT_ACCURACY, value),
+        Some(KeyKind::StartedUnit) => is_at(unit, assignment.number) && value != service,
+        Some(KeyKind::CalendarTrigger | KeyKind::Exception | KeyKind::OtherBoolean) | None => false,
     }
 }
 
@@ -272,8 +272,8 @@ fn starts(note: &OwnedAssignment) -> bool
     ensures { result ≡ starts (shown_owned_assignment note.now) }
 {
     match kind_of(note.key.as_str()) {
-        Some(SettingKind::Monotonic) => true,
-        Some(SettingKind::Change) => is_yes(note.value.as_str()),
+        Some(KeyKind::SpanTrigger) => true,
+        Some(KeyKind::ChangeTrigger) => is_yes(note.value.as_str()),
         _ => false,
     }
 }

@@ -3,30 +3,19 @@
 ghost use Rattle.std.specs.Prelude.{◌≡◌, ◌∷◌, ◌++◌, ◌||◌, [], IfOk, OnOk, map, string_bytes};
 ghost use Rattle.std.specs.Option.{option_to_list};
 ghost use Rattle.cal_read.specs.rules.SectionAssignments.{shown_owned_assignment};
+ghost use Rattle.cal_timer.specs.rules.Keys.{kind_of};
 ghost use Rattle.cal_timer.specs.rules.TimerText.{is_exception, is_expression};
-ghost use Rattle.cal_load.specs.rules.Resolved.{after_reset, is_usable, may_have_specifiers, resolved, resolved_by, resolved_in, unclear_in, unclear_of, unclear_with, unusable, value_filled};
+ghost use Rattle.cal_load.specs.rules.Resolved.{after_reset, is_usable, may_have_specifiers, resolved, resolved_by, resolved_in, takes_specifiers, unclear_in, unclear_of, unclear_with, unusable, value_filled};
 ghost use Rattle.cal_load.specs.rules.Specifiers.{shown_filled};
 ghost use Rattle.cal_load.specs.rules.Specifiers.Filling.{Text, Unclear};
 
 use crate::calendar::borrowed;
-use crate::notes::last_part;
+use crate::notes::{is_started, last_part};
 use crate::specifiers::{Filled, fill, fill_unit};
-use cal_bytes::is_among;
 use cal_read::OwnedAssignment;
 use cal_settings::has_percent;
+use cal_timer::{KeyKind, kind_of};
 use std::alloc::{AllocError, Global};
-
-/// The keys in whose values specifiers are filled in.
-const KEYS_WITH_SPECIFIERS: [&[u8]; 8] = [
-    b"Unit",
-    b"X-ExceptOnCalendar",
-    b"OnActiveSec",
-    b"OnBootSec",
-    b"OnStartupSec",
-    b"OnUnitActiveSec",
-    b"OnUnitInactiveSec",
-    b"OnCalendar",
-];
 
 /// The assignments of a timer with their specifiers filled in.
 #[derive(Drop)]
@@ -40,8 +29,8 @@ pub(crate) struct Resolved {
 /// Fills in the specifiers in the assignments of the timer with this name. `name` is the name of a unit, or the path of
 /// a file that is read by itself: then the timer's own name is the part after the last slash.
 ///
-/// Assignments without specifiers are kept as they are, and so are those whose key isn't one of
-/// [`KEYS_WITH_SPECIFIERS`]. What becomes of any other assignment depends on its specifiers:
+/// Assignments without specifiers are kept as they are, and so are those whose key doesn't take specifiers. What becomes
+/// of any other assignment depends on its specifiers:
 ///
 /// - If they stand for the timer's name or parts of it, they are filled in.
 /// - If they depend on anything else, an expression is moved to `unclear`. Any other assignment is kept as it is.
@@ -130,7 +119,7 @@ fn fill_value(alloc: Global, own: &str, assignment: &OwnedAssignment) -> Result<
     ensures { IfOk result (λ filled. shown_filled filled ≡ value_filled own.now (shown_owned_assignment assignment.now)) }
 {
     let value = assignment.value.as_str();
-    if assignment.key.as_str() == "Unit" {
+    if is_started(assignment.key.as_str()) {
         return fill_unit(alloc, own, value);
     }
     fill(alloc, own, value)
@@ -193,10 +182,24 @@ fn is_usable(text: &str) -> bool
     !(text.is_empty() || has_percent(text))
 }
 
-/// Returns whether the value has a `%`, and the key is one in whose values specifiers are filled in.
+/// Returns whether the value has a `%`, and specifiers are filled in in the values of the key.
 fn may_have_specifiers(assignment: &OwnedAssignment) -> bool
     ensures { result ≡ may_have_specifiers (shown_owned_assignment assignment.now) }
 {
     has_percent(assignment.value.as_str())
-        && is_among(&KEYS_WITH_SPECIFIERS, assignment.key.as_bytes())
+        && takes_specifiers(assignment.key.as_str())
+}
+
+fn takes_specifiers(key: &str) -> bool
+    ensures { result ≡ takes_specifiers (kind_of key.now) }
+{
+    matches!(
+        kind_of(key),
+        Some(
+            KeyKind::SpanTrigger
+                | KeyKind::CalendarTrigger
+                | KeyKind::Exception
+                | KeyKind::StartedUnit
+        )
+    )
 }

@@ -9,9 +9,9 @@ mod texts;
 
 pub use cal_stamp::{StampFault, laws as stamp_laws, read_stamp, read_stamp_in};
 pub use cal_timer::{
-    Assignment, LogicalLine, MAX_EXPRESSIONS, Timer, TimerFault, TimerLine, TimerLists,
-    first_logical, laws as timer_laws, line_laws, read_assignment, read_timer, section, trim,
-    without_mark,
+    Assignment, KeyKind, LogicalLine, MAX_EXPRESSIONS, Timer, TimerFault, TimerLine, TimerLists,
+    first_line, first_logical, kind_of, laws as timer_laws, line_laws, read_assignment, read_timer,
+    section, trim, without_mark,
 };
 pub use faults::find_faults;
 pub use section_assignments::{Assignments, OwnedAssignment, read_assignments};

@@ -39,6 +39,7 @@ use lib.Utf8.{encode}
 use Rattle.std.specs.Str.{chars, is_utf8}
 use Rattle.cal_timer.specs.rules.Lines.{groups, is_continued, logical_lines, part_of_line, physical_lines, plain_lines}
 use Rattle.cal_timer.specs.rules.Assignments.{Assignment, assignment_of, assignments_in, timer_lines}
+use Rattle.cal_timer.specs.rules.Keys.{keys_of, kind_of}
 use Rattle.cal_timer.specs.rules.TimerText.{excepted, is_exception, is_exception_reset, is_expression, is_reset, listed as listed_in, max_expressions, without_mark}
 use Rattle.std.specs.Prelude.{ℤ, ◌<ℤ◌, ◌≤ℤ◌, List, length, map, slice_get, take}
 use Rattle.cal_civil.specs.rules.Weekday as weekday
@@ -250,7 +251,7 @@ unfolding listed_in
 none_listed = omega arith
 
 no_exception : is_exception one_line ≡ false
-unfolding one_line is_exception
+unfolding one_line is_exception kind_of keys_of
 no_exception = refl
 
 every_file-spelled : AreSpelled (one_line ∷ [])
@@ -260,11 +261,11 @@ every_file-spelled before a after split =
     rw (parts.0, parts.1) (λ _. (none_listed, (every_second, every_second-spelled)), λ is. absurd (let never : false ≡ true = sym no_exception ∙ is in cc))
 
 every_file-listed : map (λ (a : Assignment). a.value) (listed_in (one_line ∷ [])) ≡ map (λ (e : Expression). e.text) (every ∷ [])
-unfolding one_line every listed_in is_reset is_expression
+unfolding one_line every listed_in is_reset is_expression kind_of keys_of
 every_file-listed = refl
 
 every_file-excepted : map (λ (a : Assignment). a.value) (excepted (one_line ∷ [])) ≡ []
-unfolding one_line excepted is_exception_reset is_exception
+unfolding one_line excepted is_exception_reset is_exception kind_of keys_of
 every_file-excepted = refl
 
 every_file-is : IsFileOf every_file (alone every)

@@ -1,3 +1,4 @@
+mod KeyRows
 mod TimerRows
 pub mod GroupLemmas
 pub mod LineLemmas

@@ -1,18 +1,19 @@
 -- Building the lists of expressions and exceptions one assignment at a time has the same result as filtering all
 -- assignments.
-use Rattle.std.proofs.Common.{◌≡◌, ◌≤◌, ◌<◌, ◌+◌, ◌&&◌, cond, ℕ, Bool, true, false, not, List, [], ◌∷◌, ◌++◌, codes, filter, length, refl, sym, subst, ap, ◌∙◌, arith, append_assoc, append-nil, length-append, Option, Some, None, Result, Ok, Err}
-use Rattle.std.specs.List.{after_last, list_any}
+use Rattle.std.proofs.Common.{◌≡◌, ◌≤◌, ◌<◌, ◌+◌, ◌&&◌, cond, ℕ, Bool, true, false, not, List, [], ◌∷◌, ◌++◌, filter, length, refl, sym, subst, ap, ◌∙◌, arith, append_assoc, append-nil, length-append, Option, Some, None, Result, Ok, Err}
+use Rattle.std.specs.List.{after_last}
 use Rattle.std.specs.Prelude.{nat_le}
 use Rattle.std.proofs.lemmas.Bool.Decides.{nat_tests}
-use Rattle.std.proofs.lemmas.Slice.Eq.{bytes_eq-Decides}
 use Rattle.std.proofs.lemmas.List.Elements.{filter-append, filter_map-append}
 use Rattle.cal_spec.specs.declared.spec_fault.SpecFault.{SpecFault}
 use Rattle.cal_timer.specs.rules.Assignments.{Assignment}
-use Rattle.std.specs.Str.{bytes_eq}
+use Rattle.cal_timer.specs.rules.Keys.{clears_expressions, is_calendar_trigger, is_exception_key, kind_of}
+use Rattle.cal_timer.specs.declared.keys.KeyKind.{KeyKind}
+use Rattle.cal_timer.specs.declared.keys.KeyKind.TheVariants.{Exception}
 use Rattle.std.specs.Option.{option_or}
 use Rattle.std.proofs.lemmas.Bool.{and_right, and_parts, false_from_ne_true}
 use Rattle.cal_timer.specs.rules.TimerEntries.{TimerLine, Timer, bad_line, entries, entries_of, entry_of, fault_following, fault_joining, first_fault, lists_of, some_entries, unless_fault, entries_or_fault}
-use Rattle.cal_timer.specs.rules.TimerText.{excepted, exception_key, has_no_value, is_exception, is_exception_reset, is_expression, is_reset, listed, max_expressions, timer_keys}
+use Rattle.cal_timer.specs.rules.TimerText.{excepted, has_no_value, is_exception, is_exception_reset, is_expression, is_reset, listed, max_expressions}
 use Rattle.cal_timer.specs.computed.ResumedLists.{changed, empty_lists, with_assignment, resumed, with_list}
 use Rattle.cal_timer.specs.declared.fault.TimerFault.{TimerFault}
 use Rattle.cal_timer.specs.declared.fault.TimerFault.TheVariants.{BadLine}
@@ -53,19 +54,18 @@ excepted_other before a e f = kept_other is_exception is_exception_reset before 
 
 -- The lemmas down to `exception_is_no_exception_reset` say that an assignment does at most one of these four things: it
 -- adds an expression, adds an exception, clears the expressions, or clears the exceptions. This holds because only an
--- assignment with a value adds, only one without a value clears, and the key of exceptions is not one of `timer_keys`.
+-- assignment with a value adds, only one without a value clears, and the key of exceptions doesn't clear expressions.
 no_value : (b x y : Bool) → (b && x) ≡ true → (not b && y) ≡ false
 no_value true x y e = refl
 no_value false x y e = cc
 
--- the key of exceptions is not one of `timer_keys`
-other_key : (key : List ℕ) → bytes_eq key exception_key ≡ true → (list_any (bytes_eq key) timer_keys ≡ false) × (bytes_eq key (codes "OnCalendar") ≡ false)
-other_key key e =
-    let same : key ≡ exception_key = (bytes_eq-Decides key exception_key).0 e in
-    subst (λ (k : List ℕ). (list_any (bytes_eq k) timer_keys ≡ false) × (bytes_eq k (codes "OnCalendar") ≡ false)) (sym same) (refl, refl)
+-- the key of exceptions is neither `OnCalendar` nor a key that clears the list of expressions
+other_key : (kind : Option KeyKind) → is_exception_key kind ≡ true → (clears_expressions kind ≡ false) × (is_calendar_trigger kind ≡ false)
+other_key (Some Exception) e = (refl, refl)
+other_key _ e = absurd (cc)
 
-no_exception_key : (key : List ℕ) → list_any (bytes_eq key) timer_keys ≡ true → bytes_eq key exception_key ≡ false
-no_exception_key key e = false_from_ne_true (bytes_eq key exception_key) (λ h. let other = (other_key key h).0 in absurd (cc))
+no_exception_key : (kind : Option KeyKind) → clears_expressions kind ≡ true → is_exception_key kind ≡ false
+no_exception_key kind e = false_from_ne_true (is_exception_key kind) (λ h. let other = (other_key kind h).0 in absurd (cc))
 
 pub reset_is_no_expression : (a : Assignment) → is_reset a ≡ true → is_expression a ≡ false
 unfolding is_reset is_expression
@@ -77,21 +77,21 @@ reset_is_no_exception a e = no_value (has_no_value a) _ _ e
 
 reset_is_no_exception_reset : (a : Assignment) → is_reset a ≡ true → is_exception_reset a ≡ false
 unfolding is_reset is_exception_reset
-reset_is_no_exception_reset a e = and_right (has_no_value a) (bytes_eq a.key exception_key) (no_exception_key a.key (and_parts (has_no_value a) _ e).1)
+reset_is_no_exception_reset a e = and_right (has_no_value a) (is_exception_key (kind_of a.key)) (no_exception_key (kind_of a.key) (and_parts (has_no_value a) _ e).1)
 
 exception_reset_is_no_reset : (a : Assignment) → is_exception_reset a ≡ true → is_reset a ≡ false
 unfolding is_reset is_exception_reset
-exception_reset_is_no_reset a e = and_right (has_no_value a) _ (other_key a.key (and_parts (has_no_value a) _ e).1).0
+exception_reset_is_no_reset a e = and_right (has_no_value a) _ (other_key (kind_of a.key) (and_parts (has_no_value a) _ e).1).0
 
 exception_reset_is_no_expression : (a : Assignment) → is_exception_reset a ≡ true → is_expression a ≡ false
 unfolding is_exception_reset is_expression
 exception_reset_is_no_expression a e = no_value (has_no_value a) _ _ e
 
-expression_is_no_exception : (a : Assignment) → is_expression a ≡ true → is_exception a ≡ false
+pub expression_is_no_exception : (a : Assignment) → is_expression a ≡ true → is_exception a ≡ false
 unfolding is_expression is_exception
 expression_is_no_exception a e =
-    and_right (not (has_no_value a)) (bytes_eq a.key exception_key)
-    (false_from_ne_true (bytes_eq a.key exception_key) (λ h. let other = (other_key a.key h).1 in let here = (and_parts (not (has_no_value a)) _ e).1 in absurd (cc)))
+    and_right (not (has_no_value a)) (is_exception_key (kind_of a.key))
+    (false_from_ne_true (is_exception_key (kind_of a.key)) (λ h. let other = (other_key (kind_of a.key) h).1 in let here = (and_parts (not (has_no_value a)) _ e).1 in absurd (cc)))
 
 exception_is_no_expression : (a : Assignment) → is_exception a ≡ true → is_expression a ≡ false
 exception_is_no_expression a e = false_from_ne_true (is_expression a) (λ h. let other = expression_is_no_exception a h in absurd (cc))
@@ -101,7 +101,7 @@ expression_is_no_reset a e = false_from_ne_true (is_reset a) (λ h. let other = 
 
 pub exception_is_no_exception_reset : (a : Assignment) → is_exception a ≡ true → is_exception_reset a ≡ false
 unfolding is_exception is_exception_reset
-exception_is_no_exception_reset a e = false_from_ne_true (is_exception_reset a) (λ h. let other = no_value (has_no_value a) _ (bytes_eq a.key exception_key) h in absurd (cc))
+exception_is_no_exception_reset a e = false_from_ne_true (is_exception_reset a) (λ h. let other = no_value (has_no_value a) _ (is_exception_key (kind_of a.key)) h in absurd (cc))
 
 -- an assignment that clears one of the two lists doesn't change the other list
 pub excepted_kept : (before : List Assignment) (a : Assignment) → is_reset a ≡ true → excepted (before ++ a ∷ []) ≡ excepted before

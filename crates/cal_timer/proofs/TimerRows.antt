@@ -10,6 +10,7 @@ use Rattle.cal_spec.specs.declared.spec_fault.SpecFault.{SpecFault}
 use Rattle.cal_spec.specs.declared.spec_fault.SpecFault.TheVariants.{NoRepeat}
 use Rattle.cal_timer.specs.rules.Assignments.{assignment_of, assignments_in, timer_lines}
 use Rattle.cal_bytes.specs.rules.Trim.{trim_matches, trim_end_matches, trim_start_matches}
+use Rattle.cal_timer.specs.rules.Keys.{keys_of, kind_of}
 use Rattle.cal_timer.specs.rules.Lines.{groups, is_continued, logical_lines, part_of_line, physical_lines, plain_lines}
 use Rattle.cal_timer.specs.rules.TimerEntries.{Timer, TimerLine, broken_line, entries, fault_following, fault_joining, first_fault, lists_of, timer_in, timer_of}
 use Rattle.cal_timer.specs.rules.TimerText.{excepted, is_exception, is_exception_reset, is_expression, is_reset, listed, without_mark}
@@ -67,5 +68,5 @@ rows =
     ∷ []
 
 rows_read : map (λ (row : Row). timer_in row.0 row.1) rows ≡ map (λ (row : Row). row.2) rows
-unfolding timer_in timer_of lists_of first_fault fault_following fault_joining listed excepted entries is_reset is_expression is_exception is_exception_reset assignments_in timer_lines assignment_of logical_lines groups plain_lines physical_lines part_of_line is_continued trim_matches trim_end_matches trim_start_matches without_mark broken_line is_utf8 chars encode utf8_valid_len
+unfolding timer_in timer_of lists_of first_fault fault_following fault_joining listed excepted entries is_reset is_expression is_exception is_exception_reset kind_of keys_of assignments_in timer_lines assignment_of logical_lines groups plain_lines physical_lines part_of_line is_continued trim_matches trim_end_matches trim_start_matches without_mark broken_line is_utf8 chars encode utf8_valid_len
 rows_read = refl

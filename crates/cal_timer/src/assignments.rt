@@ -2,31 +2,15 @@
 //! (systemd.syntax(7); systemd.timer(5), OnCalendar=). An exception is an expression after `X-ExceptOnCalendar=`; when
 //! it elapses, the timer doesn't.
 
-ghost use Rattle.std.specs.Prelude.{◌≡◌, MatchOption, map, true, false};
-ghost use Rattle.std.specs.List.{list_any};
+ghost use Rattle.std.specs.Prelude.{◌≡◌, MatchOption, true, false};
 ghost use Rattle.std.specs.Option.{option_map};
-ghost use Rattle.std.specs.Str.{bytes_eq};
 ghost use Rattle.cal_timer.specs.rules.Assignments.{assignment_of, is_header, section_of};
 ghost use Rattle.cal_timer.specs.rules.LineView.{line_at};
 ghost use Rattle.cal_timer.specs.rules.TimerView.{shown_assignment};
 ghost use Rattle.cal_timer.specs.rules.TimerText.{is_exception, is_exception_reset, is_expression, is_reset};
 
+use crate::keys::{clears_expressions, is_calendar_trigger, is_exception_key};
 use crate::lines::trim;
-use cal_bytes::is_among;
-
-/// The keys whose assignments clear the list of expressions if their value is empty.
-const TIMER_KEYS: [&[u8]; 6] = [
-    b"OnActiveSec",
-    b"OnBootSec",
-    b"OnStartupSec",
-    b"OnUnitActiveSec",
-    b"OnUnitInactiveSec",
-    b"OnCalendar",
-];
-
-/// The key of exceptions; systemd itself ignores this key. An assignment with this key and an empty value clears the
-/// list of exceptions.
-const EXCEPTION_KEY: &str = "X-ExceptOnCalendar";
 
 /// An assignment of a unit file: a key and its value, both without leading and trailing blanks and carriage returns.
 #[derive(Clone, Copy)]
@@ -41,13 +25,13 @@ pub struct Assignment<'t> {
 }
 
 impl Assignment<'_> {
-    /// Returns whether the assignment clears the list of expressions: its value is empty, and its key is `OnCalendar`,
-    /// `OnActiveSec`, `OnBootSec`, `OnStartupSec`, `OnUnitActiveSec` or `OnUnitInactiveSec`.
+    /// Returns whether the assignment clears the list of expressions: its value is empty, and its key is `OnCalendar` or
+    /// that of a monotonic timer, such as `OnBootSec`.
     #[tactic(auto, unfolding(crate::specs::rules::TimerText::is_reset))]
     pub fn is_reset(self) -> bool
         ensures { result ≡ is_reset (shown_assignment self.entry) }
     {
-        self.value.is_empty() && is_among(&TIMER_KEYS, self.key.as_bytes())
+        self.value.is_empty() && clears_expressions(self.key)
     }
 
     /// Returns whether the assignment is an expression: `OnCalendar` with a value.
@@ -55,7 +39,7 @@ impl Assignment<'_> {
     pub fn is_expression(self) -> bool
         ensures { result ≡ is_expression (shown_assignment self.entry) }
     {
-        !self.value.is_empty() && self.key == "OnCalendar"
+        !self.value.is_empty() && is_calendar_trigger(self.key)
     }
 
     /// Returns whether the assignment clears the list of exceptions: `X-ExceptOnCalendar` with an empty value.
@@ -63,7 +47,7 @@ impl Assignment<'_> {
     pub fn is_exception_reset(self) -> bool
         ensures { result ≡ is_exception_reset (shown_assignment self.entry) }
     {
-        self.value.is_empty() && self.key == EXCEPTION_KEY
+        self.value.is_empty() && is_exception_key(self.key)
     }
 
     /// Returns whether the assignment is an exception: `X-ExceptOnCalendar` with a value.
@@ -71,7 +55,7 @@ impl Assignment<'_> {
     pub fn is_exception(self) -> bool
         ensures { result ≡ is_exception (shown_assignment self.entry) }
     {
-        !self.value.is_empty() && self.key == EXCEPTION_KEY
+        !self.value.is_empty() && is_exception_key(self.key)
     }
 }
 

@@ -5,6 +5,7 @@
 mod assignments;
 mod fault;
 mod file;
+mod keys;
 pub mod laws;
 pub mod line_laws;
 mod lines;
@@ -14,6 +15,7 @@ mod timer;
 pub use assignments::{Assignment, read_assignment, section};
 pub use fault::TimerFault;
 pub use file::{read_timer, without_mark};
-pub use lines::{LogicalLine, first_logical, trim};
+pub use keys::{KeyKind, kind_of};
+pub use lines::{LogicalLine, first_line, first_logical, trim};
 pub use lists::{MAX_EXPRESSIONS, TimerLists};
 pub use timer::{Timer, TimerLine};

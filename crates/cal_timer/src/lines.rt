@@ -67,10 +67,11 @@ fn without_return(line: &str) -> &str
 }
 
 /// Returns the first physical line, without its line ending, and the text after it, or `None` if `text` is empty.
-fn first_line(text: &str) -> Option<(&str, &str)>
+pub fn first_line(text: &str) -> Option<(&str, &str)>
     ensures lines { MatchOption result (lines text.now ≡ [])
         (λ found. lines text.now ≡ found.0.now ∷ lines found.1.now) }
     ensures shorter { IfSome result (λ found. length found.1.now < length text.now) }
+    ensures within { IfSome result (λ found. length found.0.now ≤ length text.now) }
 {
     if text.is_empty() {
         return None;

@@ -6,10 +6,9 @@ ghost use Rattle.cal_timers_text.specs.rules.Messages.{doubt_words, finding_mess
 
 use cal_lint::{Doubt, Mistake, OpenStepFlaw, Problem, Rejection, Section};
 use cal_load::WhyIgnored;
-use cal_settings::SettingKind;
 use cal_spec::Field;
 use cal_tasks::IdleKind;
-use cal_timer::TimerFault;
+use cal_timer::{KeyKind, TimerFault};
 use cal_timers_report::push_printable;
 use std::alloc::{AllocError, Global};
 
@@ -128,13 +127,14 @@ fn loss_words(field: Field) -> &'static str
 /// Returns what is wrong with a value that systemd doesn't accept for a setting of this kind, as the start of a
 /// message.
 #[tactic(auto, unfolding(crate::specs::rules::Messages::value_words))]
-fn value_words(kind: SettingKind) -> &'static str
+fn value_words(kind: KeyKind) -> &'static str
     ensures { result.now ≡ value_words kind }
 {
     match kind {
-        SettingKind::Monotonic | SettingKind::Delay | SettingKind::Accuracy => "not a time span",
-        SettingKind::Change | SettingKind::Switch | SettingKind::Flag => "not a boolean",
-        SettingKind::Started => "not the name of a unit",
+        KeyKind::SpanTrigger | KeyKind::Delay | KeyKind::Accuracy => "not a time span",
+        KeyKind::ChangeTrigger | KeyKind::TimingBoolean | KeyKind::OtherBoolean => "not a boolean",
+        KeyKind::CalendarTrigger | KeyKind::Exception => "not a calendar expression",
+        KeyKind::StartedUnit => "not the name of a unit",
     }
 }
 

@@ -3,8 +3,7 @@
 use Rattle.std.specs.Prelude.{ℕ, ◌-◌, Bool, false, not, ◌&&◌, ◌||◌, List, [], ◌∷◌, codes, drop, is_some, length, min, nat_eq, take}
 use Rattle.std.specs.List.{list_any, starts_with}
 use Rattle.std.specs.Str.{bytes_eq, str_eq_ignore_ascii_case}
-use Rattle.cal_settings.specs.rules.Settings.{kind_of}
-use Rattle.cal_timer.specs.rules.TimerText.{exception_key}
+use Rattle.cal_timer.specs.rules.Keys.{kind_of}
 use Rattle.cal_lint.specs.declared.sections.Section.{Section}
 use Rattle.cal_lint.specs.declared.sections.Section.TheVariants.{Unit, Timer, Install}
 
@@ -50,9 +49,9 @@ abbrev pub is_install_key : List ℕ → Bool
 is_install_key key =
     list_any (bytes_eq key) (codes "Alias" ∷ codes "WantedBy" ∷ codes "RequiredBy" ∷ codes "Also" ∷ codes "DefaultInstance" ∷ [])
 
--- whether systemd 252 knows the key in the section `Timer`, or the key is this project's key for exceptions
+-- whether the key is known in the section `Timer`: whether it has a kind
 abbrev pub is_timer_key : List ℕ → Bool
-is_timer_key key = is_some (kind_of key) || list_any (bytes_eq key) (codes "OnCalendar" ∷ exception_key ∷ [])
+is_timer_key key = is_some (kind_of key)
 
 -- whether systemd 252 or this project knows the key in this section
 abbrev pub is_known_key : Section → List ℕ → Bool

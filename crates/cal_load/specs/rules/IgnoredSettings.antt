@@ -9,9 +9,10 @@ use Rattle.std.specs.Str.{bytes_eq}
 use Rattle.cal_timer.specs.rules.Assignments.{Assignment}
 use Rattle.cal_unit_index.specs.rules.Destinations.{last_part}
 use Rattle.cal_unit_index.specs.rules.Files.{UnitText}
-use Rattle.cal_settings.specs.declared.setting_kind.SettingKind.{SettingKind}
-use Rattle.cal_settings.specs.declared.setting_kind.SettingKind.TheVariants.{Monotonic, Started}
-use Rattle.cal_settings.specs.rules.Settings.{has_percent, kind_of}
+use Rattle.cal_timer.specs.declared.keys.KeyKind.{KeyKind}
+use Rattle.cal_timer.specs.declared.keys.KeyKind.TheVariants.{SpanTrigger, StartedUnit}
+use Rattle.cal_settings.specs.rules.Settings.{has_percent}
+use Rattle.cal_timer.specs.rules.Keys.{kind_of}
 use Rattle.cal_load.specs.declared.ignored.IgnoredSetting.{IgnoredSetting}
 use Rattle.cal_load.specs.declared.ignored.WhyIgnored.{WhyIgnored}
 use Rattle.cal_load.specs.declared.ignored.WhyIgnored.TheVariants.{BadValue, OwnName, SecondUnit}
@@ -33,7 +34,7 @@ names_itself name a = list_any (has_value (last_part name)) (resolved_in name (a
 
 -- why systemd ignores a setting whose value has specifiers and isn't valid once they are filled in; None for other
 -- settings
-abbrev pub value_fault : SettingKind → List ℕ → Assignment → Option WhyIgnored
+abbrev pub value_fault : KeyKind → List ℕ → Assignment → Option WhyIgnored
 value_fault kind name a = if has_percent a.value && not (is_valid_for name a) then Some (BadValue kind) else None
 
 -- why systemd ignores a `Unit=` that names the timer itself; None for any other `Unit=`
@@ -49,11 +50,11 @@ is_below (Some counted) number = nat_lt counted number
 -- look at the value of any `Unit=` below this line
 abbrev pub unit_fault : List ℕ → Option ℕ → Assignment → Option WhyIgnored
 unit_fault name counted a =
-    if is_below counted a.number then Some SecondUnit else option_or (value_fault Started name a) (name_fault name a)
+    if is_below counted a.number then Some SecondUnit else option_or (value_fault StartedUnit name a) (name_fault name a)
 
-abbrev pub fault_as : Option SettingKind → List ℕ → Option ℕ → Assignment → Option WhyIgnored
-fault_as (Some Monotonic) name counted a = value_fault Monotonic name a
-fault_as (Some Started) name counted a = unit_fault name counted a
+abbrev pub fault_as : Option KeyKind → List ℕ → Option ℕ → Assignment → Option WhyIgnored
+fault_as (Some SpanTrigger) name counted a = value_fault SpanTrigger name a
+fault_as (Some StartedUnit) name counted a = unit_fault name counted a
 fault_as _ name counted a = None
 
 -- Why systemd ignores an assignment of the timer `name`, or None if it doesn't. Only monotonic timers and `Unit=` are

@@ -5,12 +5,13 @@ use Rattle.std.specs.Prelude.{ℕ, Bool, true, false, filter, find, not, ◌&&�
 use Rattle.std.specs.List.{list_any}
 use Rattle.std.specs.Str.{bytes_eq}
 use Rattle.cal_timer.specs.rules.Assignments.{Assignment}
+use Rattle.cal_timer.specs.rules.Keys.{kind_of}
 use Rattle.cal_timer.specs.rules.TimerText.{is_reset}
 use Rattle.cal_unit_index.specs.rules.Destinations.{last_part}
 use Rattle.cal_unit_index.specs.rules.UnitName.{without_suffix}
-use Rattle.cal_settings.specs.declared.setting_kind.SettingKind.{SettingKind}
-use Rattle.cal_settings.specs.declared.setting_kind.SettingKind.TheVariants.{Monotonic, Change, Switch, Delay, Accuracy, Started, Flag}
-use Rattle.cal_settings.specs.rules.Settings.{is_longer, is_taken_as, is_yes, kind_of}
+use Rattle.cal_timer.specs.declared.keys.KeyKind.{KeyKind}
+use Rattle.cal_timer.specs.declared.keys.KeyKind.TheVariants.{SpanTrigger, ChangeTrigger, CalendarTrigger, Exception, TimingBoolean, OtherBoolean, Delay, Accuracy, StartedUnit}
+use Rattle.cal_settings.specs.rules.Settings.{is_longer, is_taken_as, is_yes}
 
 -- ## Assignments
 
@@ -18,16 +19,16 @@ unfoldable pub is_taken : Assignment → Bool
 is_taken a = is_taken_as (kind_of a.key) a.value
 
 -- Whether the last assignment with a key of this kind replaces those before it. Of monotonic timers, all assignments
--- count, and of `Unit=`, the first. Flags are never noted.
-abbrev pub last_counts : Option SettingKind → Bool
-last_counts (Some Change) = true
-last_counts (Some Switch) = true
+-- count, and of `Unit=`, the first. The other kinds are never noted.
+abbrev pub last_counts : Option KeyKind → Bool
+last_counts (Some ChangeTrigger) = true
+last_counts (Some TimingBoolean) = true
 last_counts (Some Delay) = true
 last_counts (Some Accuracy) = true
 last_counts _ = false
 
-abbrev pub is_monotonic : Option SettingKind → Bool
-is_monotonic (Some Monotonic) = true
+abbrev pub is_monotonic : Option KeyKind → Bool
+is_monotonic (Some SpanTrigger) = true
 is_monotonic _ = false
 
 -- whether the assignment replaces earlier ones with its key
@@ -40,17 +41,17 @@ replaces a = last_counts (kind_of a.key) && is_taken a
 unfoldable pub undoes : Assignment → Assignment → Bool
 undoes later a = (is_reset later && is_monotonic (kind_of a.key)) || (replaces later && bytes_eq a.key later.key)
 
--- the assignments whose key is that of some kind of setting and whose value systemd accepts, in order, except those
--- that a later assignment undoes; each valid `Unit=` is among them
+-- the assignments whose key is known and whose value systemd accepts, in order, except those that a later assignment
+-- undoes; each valid `Unit=` is among them, and so is each expression and each exception
 unfoldable pub kept_in : List Assignment → List Assignment
 kept_in [] = []
 kept_in (a ∷ after) =
     if is_taken a && not (list_any (λ later. undoes later a) after) then a ∷ kept_in after else kept_in after
 
 -- whether a setting of this kind starts the unit by itself
-abbrev pub starts_as : Option SettingKind → List ℕ → Bool
-starts_as (Some Monotonic) value = true
-starts_as (Some Change) value = is_yes value
+abbrev pub starts_as : Option KeyKind → List ℕ → Bool
+starts_as (Some SpanTrigger) value = true
+starts_as (Some ChangeTrigger) value = is_yes value
 starts_as _ value = false
 
 unfoldable pub starts : Assignment → Bool
@@ -66,8 +67,8 @@ starts_unit assignments = list_any starts (kept_in assignments)
 abbrev pub service_of : List ℕ → List ℕ
 service_of own = without_suffix own ++ codes ".service"
 
-abbrev pub is_started : Option SettingKind → Bool
-is_started (Some Started) = true
+abbrev pub is_started : Option KeyKind → Bool
+is_started (Some StartedUnit) = true
 is_started _ = false
 
 -- whether the assignment is a `Unit=` that doesn't name the timer `own` itself; systemd ignores one that does
@@ -88,15 +89,17 @@ default_accuracy = 60000000
 
 -- whether a setting of this kind is noted; `service` is the unit that the timer starts by default, and `unit` is the
 -- line whose `Unit=` counts
-abbrev pub is_noted_as : Option SettingKind → List ℕ → Option ℕ → Assignment → Bool
+abbrev pub is_noted_as : Option KeyKind → List ℕ → Option ℕ → Assignment → Bool
 is_noted_as None service unit a = false
-is_noted_as (Some Monotonic) service unit a = true
-is_noted_as (Some Change) service unit a = is_yes a.value
-is_noted_as (Some Switch) service unit a = is_yes a.value
+is_noted_as (Some SpanTrigger) service unit a = true
+is_noted_as (Some ChangeTrigger) service unit a = is_yes a.value
+is_noted_as (Some CalendarTrigger) service unit a = false
+is_noted_as (Some Exception) service unit a = false
+is_noted_as (Some TimingBoolean) service unit a = is_yes a.value
+is_noted_as (Some OtherBoolean) service unit a = false
 is_noted_as (Some Delay) service unit a = is_longer 0 a.value
 is_noted_as (Some Accuracy) service unit a = is_longer default_accuracy a.value
-is_noted_as (Some Started) service unit a = is_at unit a.number && not (bytes_eq a.value service)
-is_noted_as (Some Flag) service unit a = false
+is_noted_as (Some StartedUnit) service unit a = is_at unit a.number && not (bytes_eq a.value service)
 
 unfoldable pub is_noted : List ℕ → Option ℕ → Assignment → Bool
 is_noted service unit a = is_noted_as (kind_of a.key) service unit a

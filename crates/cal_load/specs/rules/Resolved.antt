@@ -1,27 +1,33 @@
 -- The assignments of a timer with their specifiers filled in: systemd.unit(5), Specifiers. systemd fills in those of
 -- `OnCalendar=`, of monotonic timers and of `Unit=`; we also fill in those of exceptions.
-use Rattle.std.specs.Prelude.{ℕ, Bool, false, true, not, ◌&&◌, ◌||◌, ◌==◌, if◌then◌else◌, List, [], ◌∷◌, ◌++◌, Option, None, Some, codes, filter, length}
-use Rattle.std.specs.List.{after_last, filter_map, list_any}
-use Rattle.std.specs.Str.{bytes_eq}
+use Rattle.std.specs.Prelude.{ℕ, Bool, false, true, not, ◌&&◌, ◌||◌, ◌==◌, if◌then◌else◌, List, [], ◌∷◌, ◌++◌, Option, None, Some, filter, length}
+use Rattle.std.specs.List.{after_last, filter_map}
 use Rattle.cal_timer.specs.rules.Assignments.{Assignment}
-use Rattle.cal_timer.specs.rules.TimerText.{exception_key, is_exception, is_expression, is_reset, timer_keys}
+use Rattle.cal_timer.specs.rules.Keys.{kind_of}
+use Rattle.cal_timer.specs.rules.TimerText.{is_exception, is_expression, is_reset}
+use Rattle.cal_timer.specs.declared.keys.KeyKind.{KeyKind}
+use Rattle.cal_timer.specs.declared.keys.KeyKind.TheVariants.{SpanTrigger, CalendarTrigger, Exception, StartedUnit}
 use Rattle.cal_unit_index.specs.rules.Destinations.{last_part}
 use Rattle.cal_settings.specs.rules.Settings.{has_percent}
+use Rattle.cal_load.specs.rules.Notes.{is_started}
 use Rattle.cal_load.specs.rules.Specifiers.{Filling, filled_of, unit_filled_of}
 use Rattle.cal_load.specs.rules.Specifiers.Filling.{Text, Unclear, Invalid}
 
-abbrev pub is_unit_key : List ℕ → Bool
-is_unit_key key = bytes_eq key (codes "Unit")
+-- whether specifiers are filled in in the values of keys of this kind
+abbrev pub takes_specifiers : Option KeyKind → Bool
+takes_specifiers (Some SpanTrigger) = true
+takes_specifiers (Some CalendarTrigger) = true
+takes_specifiers (Some Exception) = true
+takes_specifiers (Some StartedUnit) = true
+takes_specifiers _ = false
 
--- whether the value has a `%`, and the key is one in whose values specifiers are filled in
+-- whether the value has a `%`, and specifiers are filled in in the values of the key
 abbrev pub may_have_specifiers : Assignment → Bool
-may_have_specifiers a =
-    has_percent a.value
-    && list_any (bytes_eq a.key) (codes "Unit" ∷ exception_key ∷ timer_keys)
+may_have_specifiers a = has_percent a.value && takes_specifiers (kind_of a.key)
 
 -- the value of an assignment of the timer with the name `own`, with its specifiers filled in
 abbrev pub value_filled : List ℕ → Assignment → Filling
-value_filled own a = if is_unit_key a.key then unit_filled_of own a.value else filled_of own a.value
+value_filled own a = if is_started (kind_of a.key) then unit_filled_of own a.value else filled_of own a.value
 
 -- whether a value with its specifiers filled in can be valid: an empty one isn't, nor is one with a `%`, since no
 -- expression, time span or name of a unit has one

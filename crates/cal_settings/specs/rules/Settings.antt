@@ -1,33 +1,13 @@
--- The settings in the section `Timer` besides expressions and exceptions: of which kind they are, and which values
--- systemd accepts (systemd.timer(5), Options).
-use Rattle.std.specs.Prelude.{ℕ, nat_eq, nat_lt, nat_le, Bool, true, false, find, ◌&&◌, ◌||◌, List, [], ◌∷◌, length, Option, Some, None, Ok, Err, Result, codes}
+-- Which values systemd accepts for the settings of the section `Timer` other than expressions and exceptions
+-- (systemd.timer(5), Options).
+use Rattle.std.specs.Prelude.{ℕ, nat_eq, nat_lt, nat_le, Bool, true, false, ◌&&◌, ◌||◌, List, [], ◌∷◌, length, Option, Some, None, Ok, Err, Result, codes}
 use Rattle.std.specs.List.{ends_with, list_all, list_any}
 use Rattle.std.specs.Str.{bytes_eq, str_eq_ignore_ascii_case}
 use Rattle.cal_span.specs.computed.SpanValue.{span_of}
 use Rattle.cal_span.specs.declared.span.fault.SpanFault.{SpanFault}
 use Rattle.cal_unit_index.specs.rules.UnitName.{is_name_byte, max_name, stem_base}
-use Rattle.cal_settings.specs.declared.setting_kind.SettingKind.{SettingKind}
-use Rattle.cal_settings.specs.declared.setting_kind.SettingKind.TheVariants.{Monotonic, Change, Switch, Delay, Accuracy, Started, Flag}
-
--- ## Keys
-
--- the keys of a kind of settings
-unfoldable pub keys_of : SettingKind → List (List ℕ)
-keys_of Monotonic =
-    codes "OnActiveSec" ∷ codes "OnBootSec" ∷ codes "OnStartupSec" ∷ codes "OnUnitActiveSec" ∷ codes "OnUnitInactiveSec" ∷ []
-keys_of Change = codes "OnClockChange" ∷ codes "OnTimezoneChange" ∷ []
-keys_of Switch = codes "Persistent" ∷ codes "FixedRandomDelay" ∷ []
-keys_of Delay = codes "RandomizedDelaySec" ∷ []
-keys_of Accuracy = codes "AccuracySec" ∷ []
-keys_of Started = codes "Unit" ∷ []
-keys_of Flag = codes "WakeSystem" ∷ codes "RemainAfterElapse" ∷ []
-
-abbrev pub all_kinds : List SettingKind
-all_kinds = Monotonic ∷ Change ∷ Switch ∷ Delay ∷ Accuracy ∷ Started ∷ Flag ∷ []
-
--- the kind of the settings with this key, or None if no kind has this key
-unfoldable pub kind_of : List ℕ → Option SettingKind
-kind_of key = find (λ kind. list_any (bytes_eq key) (keys_of kind)) all_kinds
+use Rattle.cal_timer.specs.declared.keys.KeyKind.{KeyKind}
+use Rattle.cal_timer.specs.declared.keys.KeyKind.TheVariants.{SpanTrigger, ChangeTrigger, CalendarTrigger, Exception, TimingBoolean, OtherBoolean, Delay, Accuracy, StartedUnit}
 
 -- ## Values
 
@@ -86,15 +66,18 @@ is_unit_name name =
 
 -- ## Values of each kind
 
--- Whether systemd accepts this value for a setting of this kind. systemd ignores an assignment with a value that it
--- doesn't accept. A value of a monotonic timer or of `Unit=` that has a `%` is taken as valid, since what its
--- specifiers stand for may depend on the running system. Without a kind (`None`), no value is accepted.
-abbrev pub is_taken_as : Option SettingKind → List ℕ → Bool
+-- Whether systemd accepts this value for a key of this kind. systemd ignores an assignment with a value that it doesn't
+-- accept. A value of a monotonic timer or of `Unit=` that has a `%` is taken as valid, since what its specifiers stand
+-- for may depend on the running system. So is each expression and each exception: their errors are found when they are
+-- parsed. Without a kind (`None`), no value is accepted.
+abbrev pub is_taken_as : Option KeyKind → List ℕ → Bool
 is_taken_as None value = false
-is_taken_as (Some Monotonic) value = has_percent value || is_span value
-is_taken_as (Some Change) value = is_yes value || is_no value
-is_taken_as (Some Switch) value = is_yes value || is_no value
+is_taken_as (Some SpanTrigger) value = has_percent value || is_span value
+is_taken_as (Some ChangeTrigger) value = is_yes value || is_no value
+is_taken_as (Some CalendarTrigger) value = true
+is_taken_as (Some Exception) value = true
+is_taken_as (Some TimingBoolean) value = is_yes value || is_no value
+is_taken_as (Some OtherBoolean) value = is_yes value || is_no value
 is_taken_as (Some Delay) value = is_span value
 is_taken_as (Some Accuracy) value = is_span value
-is_taken_as (Some Started) value = has_percent value || is_unit_name value
-is_taken_as (Some Flag) value = is_yes value || is_no value
+is_taken_as (Some StartedUnit) value = has_percent value || is_unit_name value

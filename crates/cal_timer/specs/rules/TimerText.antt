@@ -1,39 +1,29 @@
 -- Which assignments of a timer file are its expressions (systemd.timer(5), OnCalendar=), and which are its exceptions
 -- (`X-ExceptOnCalendar=`, this project's own key). When an exception elapses, the timer doesn't. Each list has the
 -- assignments of its kind after the last assignment that clears the list.
-use Rattle.std.specs.Prelude.{ℕ, ◌==◌, nat_eq, Bool, not, ◌&&◌, if◌then◌else◌, List, [], ◌∷◌, length, filter, drop, codes}
-use Rattle.std.specs.List.{after_last, list_any, starts_with}
-use Rattle.std.specs.Str.{bytes_eq}
+use Rattle.std.specs.Prelude.{ℕ, ◌==◌, nat_eq, Bool, not, ◌&&◌, if◌then◌else◌, List, [], ◌∷◌, length, filter, drop}
+use Rattle.std.specs.List.{after_last, starts_with}
 use Rattle.cal_timer.specs.rules.Assignments.{Assignment}
-
--- the keys that clear the list of expressions if an empty value is assigned to them
-abbrev pub timer_keys : List (List ℕ)
-timer_keys =
-    codes "OnActiveSec" ∷ codes "OnBootSec" ∷ codes "OnStartupSec" ∷ codes "OnUnitActiveSec"
-    ∷ codes "OnUnitInactiveSec" ∷ codes "OnCalendar" ∷ []
-
--- the key of an exception; systemd.unit(5) leaves keys that begin with `X-` to other programs
-abbrev pub exception_key : List ℕ
-exception_key = codes "X-ExceptOnCalendar"
+use Rattle.cal_timer.specs.rules.Keys.{clears_expressions, is_calendar_trigger, is_exception_key, kind_of}
 
 abbrev pub has_no_value : Assignment → Bool
 has_no_value a = length a.value == 0
 
--- whether the assignment clears the list of expressions: one of `timer_keys` without a value
+-- whether the assignment clears the list of expressions: `OnCalendar` or a monotonic timer, without a value
 unfoldable pub is_reset : Assignment → Bool
-is_reset a = has_no_value a && list_any (bytes_eq a.key) timer_keys
+is_reset a = has_no_value a && clears_expressions (kind_of a.key)
 
 -- whether the assignment is an expression: `OnCalendar` with a value
 unfoldable pub is_expression : Assignment → Bool
-is_expression a = not (has_no_value a) && bytes_eq a.key (codes "OnCalendar")
+is_expression a = not (has_no_value a) && is_calendar_trigger (kind_of a.key)
 
 -- whether the assignment clears the list of exceptions: `X-ExceptOnCalendar` without a value
 unfoldable pub is_exception_reset : Assignment → Bool
-is_exception_reset a = has_no_value a && bytes_eq a.key exception_key
+is_exception_reset a = has_no_value a && is_exception_key (kind_of a.key)
 
 -- whether the assignment is an exception: `X-ExceptOnCalendar` with a value
 unfoldable pub is_exception : Assignment → Bool
-is_exception a = not (has_no_value a) && bytes_eq a.key exception_key
+is_exception a = not (has_no_value a) && is_exception_key (kind_of a.key)
 
 -- the assignments in the list of expressions: the expressions after the last assignment that clears the list
 unfoldable pub listed : List Assignment → List Assignment

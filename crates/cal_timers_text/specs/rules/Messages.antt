@@ -18,8 +18,8 @@ use Rattle.cal_load.specs.declared.ignored.WhyIgnored.TheVariants.{BadValue, Own
 use Rattle.cal_load.specs.declared.readable.BrokenReason.{BrokenReason}
 use Rattle.cal_load.specs.declared.readable.BrokenReason.TheVariants as broken
 use Rattle.cal_machine.specs.rules.Prefix.{after_prefix}
-use Rattle.cal_settings.specs.declared.setting_kind.SettingKind.{SettingKind}
-use Rattle.cal_settings.specs.declared.setting_kind.SettingKind.TheVariants.{Monotonic, Change, Switch, Delay, Accuracy, Started, Flag}
+use Rattle.cal_timer.specs.declared.keys.KeyKind.{KeyKind}
+use Rattle.cal_timer.specs.declared.keys.KeyKind.TheVariants.{SpanTrigger, ChangeTrigger, CalendarTrigger, Exception, TimingBoolean, OtherBoolean, Delay, Accuracy, StartedUnit}
 use Rattle.cal_tasks.specs.declared.idle.IdleKind.{IdleKind}
 use Rattle.cal_tasks.specs.declared.idle.IdleKind.TheVariants.{NeverElapses, StopsAtMidnight, SuppressesNothing}
 use Rattle.cal_timer.specs.declared.fault.TimerFault.{TimerFault}
@@ -68,14 +68,16 @@ doubt_words MonthDay = codes "this is a month and a day, not a range of weekdays
 doubt_words Abbreviation = codes "this is an abbreviation, which systemd may take for winter time or summer time only"
 
 -- what is wrong with a value that systemd doesn't accept for a setting of this kind
-unfoldable pub value_words : SettingKind → List ℕ
-value_words Monotonic = codes "not a time span"
-value_words Change = codes "not a boolean"
-value_words Switch = codes "not a boolean"
+unfoldable pub value_words : KeyKind → List ℕ
+value_words SpanTrigger = codes "not a time span"
+value_words ChangeTrigger = codes "not a boolean"
+value_words CalendarTrigger = codes "not a calendar expression"
+value_words Exception = codes "not a calendar expression"
+value_words TimingBoolean = codes "not a boolean"
+value_words OtherBoolean = codes "not a boolean"
 value_words Delay = codes "not a time span"
 value_words Accuracy = codes "not a time span"
-value_words Started = codes "not the name of a unit"
-value_words Flag = codes "not a boolean"
+value_words StartedUnit = codes "not the name of a unit"
 
 unfoldable pub section_name : Section → List ℕ
 section_name Unit = codes "Unit"

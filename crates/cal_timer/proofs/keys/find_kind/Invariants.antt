@@ -2,8 +2,8 @@ use Rattle.std.proofs.Common.{◌≡◌, drop}
 use Rattle.std.specs.List.{list_any}
 use Rattle.std.specs.Prelude.{find}
 use Rattle.std.specs.Str.{bytes_eq}
-use Rattle.cal_settings.specs.rules.Settings.{keys_of}
-use Rattle.cal_settings.proofs.setting_kind.find_kind.Given as goal
+use Rattle.cal_timer.specs.rules.Keys.{keys_of}
+use Rattle.cal_timer.proofs.keys.find_kind.Given as goal
 
 -- searching the remaining kinds for one that has the key has the same result as searching all kinds
 abbrev pub invariant-loop-kind : goal.invariant-loop-kind
