@@ -12,13 +12,14 @@ ghost use Rattle.cal_cron.specs.rules.CrontabLines.{content_by, content_of, cron
 
 use crate::columns::fault_start;
 use crate::line_texts::{
-    JobTexts, assignment_in, first_line, job_in, says_nothing, text_from, text_until, time_end,
+    JobTexts, assignment_in, job_in, says_nothing, text_from, text_until, time_end,
 };
 use crate::{
     CronFault, CrontabEntry, CrontabFormat, CrontabLine, EntryFault, EntryTime, LineContent,
     LineFault, read_cron,
 };
 use cal_bytes::{blanks_in_front, trim_blanks, trim_blanks_end};
+use cal_timer::first_line;
 use std::alloc::{AllocError, Global};
 
 /// Reads the lines of a crontab (crontab(5)): its entries, the variables that it sets, and the errors in it, in the

@@ -1,9 +1,8 @@
 //! Splitting a line of a crontab into its time fields, its user and its command.
 
-ghost use Rattle.std.specs.Prelude.{false, ◌≡◌, ◌<◌, ◌≤◌, ◌==◌, IfSome, MatchOption, [], ◌∷◌, drop, length, slice_index, take, true};
+ghost use Rattle.std.specs.Prelude.{false, ◌≡◌, ◌<◌, ◌≤◌, ◌==◌, drop, length, slice_index, take, true};
 ghost use Rattle.std.specs.List.{list_any};
 ghost use Rattle.std.specs.Option.{option_copied, option_map};
-ghost use Rattle.std.specs.Str.Lines.{lines, strip_carriage_return};
 ghost use Rattle.cal_bytes.specs.rules.Separators.{is_blank};
 ghost use Rattle.cal_cron.specs.computed.CrontabViews.{assignment_shown, job_shown};
 ghost use Rattle.cal_cron.specs.rules.CronMessages.{word_end};
@@ -20,29 +19,6 @@ pub(crate) struct JobTexts<'t> {
     pub user: Option<&'t str>,
     pub command: &'t str,
     pub input: Option<&'t str>,
-}
-
-/// Returns the first line of a text, without its line ending, and the text after it, or `None` if `text` is empty.
-pub(crate) fn first_line(text: &str) -> Option<(&str, &str)>
-    ensures lines { MatchOption result (lines text.now ≡ [])
-        (λ found. lines text.now ≡ found.0.now ∷ lines found.1.now) }
-    ensures shorter { IfSome result (λ found. length found.1.now < length text.now) }
-    ensures within { IfSome result (λ found. length found.0.now ≤ length text.now) }
-{
-    if text.is_empty() {
-        return None;
-    }
-    match text.split_once('\n') {
-        Some((line, rest)) => Some((without_return(line), rest)),
-        None => Some((text, "")),
-    }
-}
-
-/// Returns the line without the carriage return at its end, if it has one.
-fn without_return(line: &str) -> &str
-    ensures { result.now ≡ strip_carriage_return line.now }
-{
-    line.strip_suffix('\r').unwrap_or(line)
 }
 
 /// Returns whether a line without leading and trailing blanks is empty or a comment.
