@@ -1,15 +1,13 @@
 //! The report of entries as text: the settings of each entry, below comments, to be pasted into a unit.
 
-ghost use Rattle.std.specs.Prelude.{◌≡◌, ◌++◌, IfOk, OnOk, map, string_bytes, true};
-ghost use Rattle.std.specs.Char.{is_control};
+ghost use Rattle.std.specs.Prelude.{◌≡◌, ◌++◌, IfOk, OnOk, map, string_bytes};
 ghost use Rattle.std.specs.Option.{option_copied};
 ghost use Rattle.std.specs.List.{flat_map, join_by};
-ghost use Rattle.cal_timers_report.specs.rules.PrintableText.{code_text};
 ghost use Rattle.cal_crontabs.specs.rules.Entries.{entry_seen};
 ghost use Rattle.cal_crontabs.specs.rules.EntryText.{comment_char, comment_line, comment_text, entries_text, entry_text, note_line, note_lines, place_lines, setting_line, setting_lines};
 
 use crate::entries::CronEntry;
-use cal_timers_report::push_printable;
+use cal_timers_report::{push_code, push_printable};
 use std::alloc::{AllocError, Global};
 
 /// Returns the text about the entries, with an empty line between two entries. The text about an entry has comments
@@ -87,14 +85,6 @@ fn push_comment_char(out: &mut String, sign: char) -> Result<(), AllocError>
         return out.push(sign);
     }
     push_code(out, sign)
-}
-
-fn push_code(out: &mut String, sign: char) -> Result<(), AllocError>
-    requires { is_control sign ≡ true }
-    ensures { OnOk result (string_bytes out.new ≡ string_bytes out.old ++ code_text sign) }
-{
-    let code = u32::from(sign);
-    write!(out, "\\x{code:02x}")
 }
 
 fn push_notes(out: &mut String, notes: &[String]) -> Result<(), AllocError>

@@ -1,4 +1,4 @@
-mod JsonLemmas
 mod LocalTimeLemmas
-pub mod RowLemmas
 mod WidthLemmas
+pub mod JsonLemmas
+pub mod RowLemmas

@@ -26,7 +26,8 @@ pub fn push_printable(out: &mut String, text: &str) -> Result<(), AllocError>
     Ok(())
 }
 
-fn push_code(out: &mut String, sign: char) -> Result<(), AllocError>
+/// Appends a control character as `\x` and the two hexadecimal digits of its code, as in `\x1b`.
+pub fn push_code(out: &mut String, sign: char) -> Result<(), AllocError>
     requires { is_control sign ≡ true }
     ensures { OnOk result (string_bytes out.new ≡ string_bytes out.old ++ code_text sign) }
 {

@@ -16,7 +16,7 @@ mod show;
 mod style;
 mod times;
 
-pub use cells::{push_blanks, push_printable, push_times, shown_width};
+pub use cells::{push_blanks, push_code, push_printable, push_times, shown_width};
 pub use documents::{between_json, due_json, lint_json, list_json, same_json, show_json};
 pub use due::{DueReport, DueVerdict, due_text};
 pub use elapse_lines::{between_text, same_text};

@@ -2,7 +2,8 @@ use Rattle.std.proofs.Common.{codes, refl}
 use Rattle.std.proofs.lemmas.Result.{on_ok_weaker}
 use Rattle.cal_crontabs.specs.rules.Document.{entry_members}
 use Rattle.cal_crontabs.specs.rules.Entries.{entry_seen}
-use Rattle.cal_crontabs.proofs.DocumentLemmas.{object_put, texts_put}
+use Rattle.cal_timers_report.proofs.JsonLemmas.{object_put}
+use Rattle.cal_crontabs.proofs.DocumentLemmas.{texts_put}
 use Rattle.cal_crontabs.proofs.document.put_entry.Goals as goal
 
 pub returns : goal.returns

@@ -1,6 +1,6 @@
 use Rattle.std.proofs.Common.{◌≡◌, ◌++◌, map, take, string_bytes}
 use Rattle.json.specs.Json.{string}
-use Rattle.cal_crontabs.proofs.DocumentLemmas.{values_tokens}
+use Rattle.cal_timers_report.proofs.JsonLemmas.{values_tokens}
 use Rattle.cal_crontabs.proofs.document.put_strings.Given as goal
 
 abbrev pub invariant-loop-text : goal.invariant-loop-text
