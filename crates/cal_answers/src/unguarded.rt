@@ -7,12 +7,12 @@ ghost use Rattle.cal_unit_index.specs.rules.Files.{shown_unit_text};
 ghost use Rattle.cal_unit_index.specs.rules.Index.{IsIndexOf};
 ghost use Rattle.cal_load.specs.rules.Service.{asks_due_on};
 ghost use Rattle.cal_tasks.specs.rules.Unguarded.{entry_of, has_exceptions, unguarded_seen};
-ghost use Rattle.cal_answers.specs.rules.Unguarded.{before_slash, folder_of, folders_for, is_silent, is_unguarded, or_root, own_elsewhere, service_stem, starts_silent, starts_silent_service, unguarded_among, unguarded_on};
+ghost use Rattle.cal_answers.specs.rules.Unguarded.{folder_of, folders_for, is_silent, is_unguarded, or_root, own_elsewhere, service_stem, starts_silent, starts_silent_service, unguarded_among, unguarded_on};
 
 use crate::found::LoadedByVerb;
 use crate::setting_problems::is_in_search_path;
 use cal_load::{LoadedTimer, asks_due, started_unit};
-use cal_machine::Tree;
+use cal_machine::{Tree, before_last_byte};
 use cal_tasks::{UnguardedTimer, own_path};
 use cal_unit_index::{UnitIndex, UnitText};
 use std::alloc::{AllocError, Global};
@@ -240,7 +240,7 @@ fn service_stem(unit: &str) -> Option<&str>
 fn folder_of(path: &str) -> &str
     ensures { result.now ≡ folder_of path.now }
 {
-    match before_slash(path) {
+    match before_last_byte(path, '/') {
         Some(folder) => or_root(folder),
         None => ".",
     }
@@ -250,14 +250,4 @@ fn or_root(folder: &str) -> &str
     ensures { result.now ≡ or_root folder.now }
 {
     if folder.is_empty() { "/" } else { folder }
-}
-
-/// Returns the path before its last slash, or `None` if it has no slash.
-fn before_slash(path: &str) -> Option<&str>
-    ensures { option_map (λ before. before.now) result ≡ before_slash path.now }
-{
-    match path.rfind('/') {
-        Some(index) => Some(&path[..index]),
-        None => None,
-    }
 }

@@ -1,9 +1,9 @@
 //! Single steps along a path: where the path goes on after one of its parts, depending on what is there.
 
-ghost use Rattle.std.specs.Prelude.{◌≡◌, ◌++◌, ◌∷◌, [], IfOk, MatchOption, OnOk, map, string_bytes};
+ghost use Rattle.std.specs.Prelude.{◌≡◌, ◌++◌, ◌∷◌, ◌<◌, [], IfOk, MatchOption, OnOk, map, option_map, string_bytes};
 ghost use Rattle.std.specs.List.{flat_map};
 ghost use Rattle.cal_machine.specs.rules.Machine.{shown_entry};
-ghost use Rattle.cal_machine.specs.rules.Places.{above, before_last, below, child, is_followed, is_last, is_outside, parts_of, place_at, shown_place, shown_step, start_in, stays, step_at};
+ghost use Rattle.cal_machine.specs.rules.Places.{above, before_last_byte, below, child, is_followed, is_last, is_outside, parts_of, place_at, shown_place, shown_step, start_in, stays, step_at};
 
 use crate::follow::{Last, Place};
 use crate::tree::Entry;
@@ -127,7 +127,10 @@ pub(crate) fn above(alloc: Global, folder: &str) -> Result<String, AllocError>
     if is_outside(folder) {
         return child(alloc, folder, "..");
     }
-    String::from_str(alloc, before_last(folder))
+    match before_last_byte(folder, '/') {
+        Some(above) => String::from_str(alloc, above),
+        None => Ok(String::new(alloc)),
+    }
 }
 
 /// Returns whether the path of a folder is `.`, the folder in which the program runs, or leads from there to a folder
@@ -138,13 +141,15 @@ fn is_outside(folder: &str) -> bool
     folder == "." || folder.ends_with("/..")
 }
 
-/// Returns the path before its last slash, or the root if it has no slash.
-fn before_last(path: &str) -> &str
-    ensures { result.now ≡ before_last path.now }
+/// Returns the part of a text before the last `byte` in it, which must be an ASCII character. Returns `None` if the text
+/// doesn't have this character.
+pub fn before_last_byte(text: &str, byte: char) -> Option<&str>
+    requires { byte < 128 }
+    ensures { option_map (λ before. before.now) result ≡ before_last_byte byte text.now }
 {
-    match path.rfind('/') {
-        Some(index) => &path[..index],
-        None => "",
+    match text.rfind(byte) {
+        Some(index) => Some(&text[..index]),
+        None => None,
     }
 }
 

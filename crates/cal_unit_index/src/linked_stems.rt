@@ -3,9 +3,10 @@
 //! of the search path.
 
 ghost use Rattle.std.specs.Prelude.{◌≡◌, IfOk, option_map, string_bytes};
-ghost use Rattle.cal_unit_index.specs.rules.Starts.{before_dot, if_stem, instance_in, instantiated, linked_stem};
+ghost use Rattle.cal_unit_index.specs.rules.Starts.{if_stem, instance_in, instantiated, linked_stem};
 
 use crate::unit_name::{UnitKind, instance_of, is_stem, is_template, listed_stem, unit_kind_of};
+use cal_machine::before_last_byte;
 use std::alloc::{AllocError, Global};
 
 /// Returns the stem of the timer that a link with this name starts in a wants folder with the name `folder`, wherever
@@ -54,21 +55,11 @@ fn if_stem(stem: String) -> Option<String>
 fn instance_in(folder: &str) -> Option<&str>
     ensures { option_map (λ instance. instance.now) result ≡ instance_in folder.now }
 {
-    let unit = before_dot(before_dot(folder)?)?;
+    let unit = before_last_byte(before_last_byte(folder, '.')?, '.')?;
     match unit_kind_of(unit) {
         UnitKind::Plain if unit.as_bytes().ends_with(b"-") => None,
         UnitKind::Plain => Some(unit),
         UnitKind::Template => None,
         UnitKind::Instance => Some(instance_of(unit)),
-    }
-}
-
-/// Returns the part of a name before its last dot, or `None` if it has no dot.
-fn before_dot(name: &str) -> Option<&str>
-    ensures { option_map (λ before. before.now) result ≡ before_dot name.now }
-{
-    match name.rfind('.') {
-        Some(index) => Some(&name[..index]),
-        None => None,
     }
 }

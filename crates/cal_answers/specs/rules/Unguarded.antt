@@ -2,10 +2,8 @@
 -- systemd ignores the exceptions (systemd.service(5), ExecCondition=).
 use Rattle.std.specs.Prelude.{ℕ, ◌-◌, ◌==◌, nat_eq, Bool, false, not, ◌&&◌, if◌then◌else◌, List, [], ◌∷◌, Option, None, Some, codes, filter, length, map, string_bytes, take}
 use Rattle.std.specs.List.{ends_with}
-use Rattle.std.specs.Option.{option_map}
-use Rattle.std.specs.Path.{rfind_below}
 use Rattle.cal_machine.specs.rules.Machine.{Machine}
-use Rattle.cal_machine.specs.rules.Places.{slash}
+use Rattle.cal_machine.specs.rules.Places.{before_last_byte, slash}
 use Rattle.cal_unit_index.specs.declared.files.UnitText.{UnitText}
 use Rattle.cal_unit_index.specs.rules.Files.{shown_unit_text}
 use Rattle.cal_load.specs.declared.loaded.LoadedTimer.{LoadedTimer}
@@ -18,10 +16,6 @@ use Rattle.cal_answers.specs.rules.LintUnits.{is_in_folders}
 
 -- ## Where a service is looked for
 
--- the path before its last slash, or None if it has no slash
-abbrev pub before_slash : List ℕ → Option (List ℕ)
-before_slash path = option_map (λ index. take index path) (rfind_below slash path (length path))
-
 -- the root, if nothing is before the slash
 abbrev pub or_root : List ℕ → List ℕ
 or_root folder = if length folder == 0 then codes "/" else folder
@@ -32,7 +26,7 @@ folder_if (Some folder) = or_root folder
 
 -- the folder that has the file at a path
 abbrev pub folder_of : List ℕ → List ℕ
-folder_of path = folder_if (before_slash path)
+folder_of path = folder_if (before_last_byte slash path)
 
 -- the path of a timer's own file, the first of its files; None if this file is directly in a folder of the search path
 abbrev pub own_elsewhere : List (List ℕ) → List UnitText → Option (List ℕ)

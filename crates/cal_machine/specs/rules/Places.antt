@@ -1,5 +1,5 @@
 -- Where a path leads (path_resolution(7), symlink(7)), and what is there.
-use Rattle.std.specs.Prelude.{ℕ, suc, zero, ◌==◌, nat_eq, Bool, false, true, ◌||◌, not, List, [], ◌∷◌, ◌++◌, codes, length, take, Result, Ok, Err, if◌then◌else◌, option_map, map, string_bytes}
+use Rattle.std.specs.Prelude.{ℕ, suc, zero, ◌==◌, nat_eq, Bool, false, true, ◌||◌, not, List, [], ◌∷◌, ◌++◌, codes, length, take, Option, Result, Ok, Err, if◌then◌else◌, option_map, map, string_bytes}
 use Rattle.std.specs.List.{ends_with, flat_map, slice_split, starts_with}
 use Rattle.std.specs.Option.{unwrap_or}
 use Rattle.std.specs.Path.{rfind_below}
@@ -46,14 +46,15 @@ start_in folder path = if starts_with nat_eq path (codes "/") then [] else folde
 abbrev pub is_outside : List ℕ → Bool
 is_outside folder = bytes_eq folder (codes ".") || ends_with nat_eq folder (codes "/..")
 
--- the path before its last slash, or the root if it has no slash
-abbrev pub before_last : List ℕ → List ℕ
-before_last path = unwrap_or (option_map (λ index. take index path) (rfind_below slash path (length path))) []
+-- the part of a text before its last byte of this value; None if it has no such byte
+abbrev pub before_last_byte : ℕ → List ℕ → Option (List ℕ)
+before_last_byte byte text = option_map (λ index. take index text) (rfind_below byte text (length text))
 
--- The folder to which `..` leads from a folder. Above the root is the root itself. Above the folder in which the
+-- The folder to which `..` leads from a folder: its path before the last slash. Above the root, which is the empty path,
+-- is the root itself. Above the folder in which the
 -- program runs, `..` is kept, because the path has no part that could be left out.
 abbrev pub above : List ℕ → List ℕ
-above folder = if is_outside folder then child folder (codes "..") else before_last folder
+above folder = if is_outside folder then child folder (codes "..") else unwrap_or (before_last_byte slash folder) []
 
 -- ## Where a path leads
 

@@ -1,13 +1,12 @@
 -- Which timers other units start, whether or not those units are started themselves: the timers in folders `NAME.wants`
 -- and `NAME.requires` below the folders of the search path (systemd.unit(5), Description). Here, any such folder is
 -- called a wants folder, and `NAME` can be any unit.
-use Rattle.std.specs.Prelude.{ℕ, nat_eq, Bool, true, false, ◌||◌, if◌then◌else◌, List, [], ◌∷◌, ◌++◌, Option, None, Some, Result, Ok, Err, codes, filter, length, map, option_and_then, option_map, reverse, take}
+use Rattle.std.specs.Prelude.{ℕ, nat_eq, Bool, true, false, ◌||◌, if◌then◌else◌, List, [], ◌∷◌, ◌++◌, Option, None, Some, Result, Ok, Err, codes, filter, map, option_and_then, reverse}
 use Rattle.std.specs.List.{ends_with, filter_map, flat_map}
-use Rattle.std.specs.Path.{rfind_below}
 use Rattle.cal_machine.specs.declared.tree.Unreadable.{Unreadable}
 use Rattle.cal_machine.specs.rules.Machine.{Entry, Machine}
 use Rattle.cal_machine.specs.rules.Machine.Entry.{Missing, Empty, File, Device, Folder, Link}
-use Rattle.cal_machine.specs.rules.Places.{entry_at, names_at}
+use Rattle.cal_machine.specs.rules.Places.{before_last_byte, entry_at, names_at}
 use Rattle.cal_unit_index.specs.declared.unit_name.UnitKind.{UnitKind}
 use Rattle.cal_unit_index.specs.declared.unit_name.UnitKind.TheVariants.{Plain, Template, Instance}
 use Rattle.cal_unit_index.specs.rules.Destinations.{listed, sorted_once}
@@ -70,7 +69,7 @@ dot = 46
 
 -- the part of a name before its last dot, or None if it has no dot
 abbrev pub before_dot : List ℕ → Option (List ℕ)
-before_dot name = option_map (λ index. take index name) (rfind_below dot name (length name))
+before_dot name = before_last_byte dot name
 
 -- The instance that a unit with this name, without its suffix, gives to a template that it wants: the unit's own
 -- instance, or all of the name if the unit isn't an instance. A template and a name that ends with a dash, which is a
