@@ -6,31 +6,15 @@ ghost use Rattle.cal_cron.specs.computed.CrontabViews.{content_shown, line_shown
 ghost use Rattle.cal_cron.specs.computed.Translation.{exprs_in};
 ghost use Rattle.cal_machine.specs.rules.Machine.{Machine};
 ghost use Rattle.cal_machine.specs.rules.Places.{is_slash};
-ghost use Rattle.cal_crontabs.specs.rules.CrontabFiles.{AreCrontabsAt, are_of_crontab, crontabs_at, has_unit_suffix, is_cron_place, is_crontab, is_crontab_text, is_directly_in, is_entry, is_file_name, is_header, is_in_cron_folder, may_be_crontab};
+ghost use Rattle.cal_crontabs.specs.rules.CrontabFiles.{AreCrontabsAt, are_of_crontab, crontabs_at, is_cron_place, is_crontab, is_crontab_text, is_directly_in, is_entry, is_file_name, is_header, is_in_cron_folder, may_be_crontab};
 ghost use Rattle.cal_crontabs.specs.rules.Crontabs.{AreAlso, file_faults};
 
 use crate::crontabs::Crontabs;
 use crate::lines::lines_of;
 use cal_cron::{CrontabFormat, CrontabLine, EntryTime, LineContent};
 use cal_machine::{Tree, after_prefix};
-use cal_unit_index::{FileRead, read_file};
+use cal_unit_index::{FileRead, has_unit_suffix, read_file};
 use std::alloc::{AllocError, Global};
-
-/// The suffixes of the files of units (systemd.unit(5), Description), and the suffix of drop-ins.
-const UNIT_SUFFIXES: [&[u8]; 12] = [
-    b".timer",
-    b".conf",
-    b".service",
-    b".socket",
-    b".device",
-    b".mount",
-    b".automount",
-    b".swap",
-    b".target",
-    b".path",
-    b".slice",
-    b".scope",
-];
 
 /// Returns whether a target of `lint` is checked as a crontab.
 ///
@@ -134,25 +118,7 @@ fn may_be_crontab(target: &str) -> bool
     ensures { result ≡ may_be_crontab target.now }
 {
     let target = target.as_bytes();
-    has_slash(target) && !has_unit_suffix(target)
-}
-
-#[tactic(auto, unfolding(crate::specs::rules::CrontabFiles::has_unit_suffix))]
-fn has_unit_suffix(path: &[u8]) -> bool
-    ensures { result ≡ has_unit_suffix path.now }
-{
-    has_any_suffix(&UNIT_SUFFIXES, path)
-}
-
-fn has_any_suffix(suffixes: &[&[u8]], path: &[u8]) -> bool
-    ensures { result ≡ list_any (ends_with nat_eq path.now) (map (λ suffix. suffix.now) suffixes.now) }
-{
-    for suffix in suffixes {
-        if path.ends_with(suffix) {
-            return true;
-        }
-    }
-    false
+    has_slash(target) && !(has_unit_suffix(target) || target.ends_with(b".conf"))
 }
 
 /// Returns whether a file at this path with this content is a crontab.

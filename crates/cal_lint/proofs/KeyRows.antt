@@ -1,6 +1,6 @@
 -- Examples of unknown keys, and of names in the section `Install`, checked by computation.
 use Rattle.std.proofs.Common.{◌≡◌, true, false, codes, refl}
-use Rattle.cal_settings.specs.rules.Settings.{has_unit_suffix, is_unit_name}
+use Rattle.cal_unit_index.specs.rules.UnitName.{has_unit_suffix, is_unit_name}
 use Rattle.cal_timer.specs.rules.Keys.{keys_of, kind_of}
 use Rattle.cal_bytes.specs.rules.Separators.{words}
 use Rattle.cal_lint.specs.declared.sections.Section.TheVariants.{Unit, Timer, Install}

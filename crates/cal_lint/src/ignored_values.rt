@@ -5,8 +5,8 @@ ghost use Rattle.cal_timer.specs.rules.TimerView.{shown_assignment};
 ghost use Rattle.cal_lint.specs.rules.IgnoredValues.{ignored_setting};
 
 use cal_read::Assignment;
-use cal_settings::is_taken_as;
 use cal_timer::{KeyKind, kind_of};
+use cal_unit_index::is_taken_as;
 
 /// Returns the kind of the setting if systemd ignores the assignment because of its value. An empty value that clears
 /// the monotonic timers isn't ignored.

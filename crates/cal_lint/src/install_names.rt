@@ -8,7 +8,7 @@ ghost use Rattle.cal_lint.specs.rules.InstallNames.{has_bad_name, has_names, is_
 
 use cal_bytes::{first_word, is_among};
 use cal_read::Assignment;
-use cal_settings::is_unit_name;
+use cal_unit_index::is_unit_name;
 
 /// The keys whose values are names of units.
 const KEYS_WITH_NAMES: [&[u8]; 4] = [b"WantedBy", b"RequiredBy", b"Alias", b"Also"];

@@ -7,7 +7,7 @@ ghost use Rattle.std.specs.Result.{is_ok};
 ghost use Rattle.cal_spec.specs.computed.Expr.{expr_in};
 ghost use Rattle.cal_lint.specs.rules.Instances.{after_letter, around_instance, around_percent, fits, fits_no_instance};
 
-use cal_settings::has_percent;
+use cal_unit_index::has_percent;
 use cal_spec::{SpecFault, read_expr};
 use std::alloc::{AllocError, Global};
 

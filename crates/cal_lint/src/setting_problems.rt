@@ -24,7 +24,7 @@ use crate::older_systemd::{Rejection, systemd_252};
 use crate::open_steps::{OpenStepFlaw, find_open_step_flaw};
 use crate::problems::{Finding, Problem, ProblemKind, finding_with, plain_finding};
 use cal_read::{Assignment, FileFault, TimerFault};
-use cal_settings::has_percent;
+use cal_unit_index::has_percent;
 use cal_spec::{SpecFault, read_expr};
 use std::alloc::{AllocError, Global};
 

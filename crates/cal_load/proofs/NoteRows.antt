@@ -5,8 +5,7 @@ use Rattle.cal_span.specs.rules.PairValue.{is_number, number_worth, unit_named, 
 use Rattle.cal_span.specs.rules.UnitSpellings.{spellings_of}
 use Rattle.cal_timer.specs.rules.Assignments.{Assignment}
 use Rattle.cal_timer.specs.rules.TimerText.{is_reset}
-use Rattle.cal_unit_index.specs.rules.UnitName.{without_suffix}
-use Rattle.cal_settings.specs.rules.Settings.{has_unit_suffix, is_unit_name}
+use Rattle.cal_unit_index.specs.rules.UnitName.{has_unit_suffix, is_unit_name, without_suffix}
 use Rattle.cal_timer.specs.rules.Keys.{keys_of, kind_of}
 use Rattle.cal_load.specs.rules.Notes.{is_noted, is_taken, kept_in, names_unit, note_text, noted_of, notes_in, replaces, starts, starts_unit, undoes}
 

@@ -13,13 +13,12 @@ ghost use Rattle.cal_load.specs.rules.Loaded.{assignments_of_files, timer_assign
 ghost use Rattle.cal_load.specs.rules.Notes.{is_taken, kept_in};
 ghost use Rattle.cal_load.specs.rules.Resolved.{resolved_in};
 
-use crate::notes::{is_taken, kept_of, last_part, unit_line};
+use crate::notes::{is_taken, kept_of, unit_line};
 use crate::resolved::{Resolved, resolve};
 use crate::texts::read_files;
 use cal_read::OwnedAssignment;
-use cal_settings::has_percent;
 use cal_timer::{KeyKind, kind_of};
-use cal_unit_index::UnitText;
+use cal_unit_index::{UnitText, has_percent, last_part};
 use std::alloc::{AllocError, Global};
 
 /// Why systemd ignores a setting of a timer.
@@ -156,9 +155,7 @@ fn why_ignored(
     ensures { IfOk result (λ why. why ≡ why_ignored name.now counted (shown_owned_assignment assignment)) }
 {
     match kind_of(assignment.key.as_str()) {
-        Some(KeyKind::SpanTrigger) => {
-            value_fault(alloc, KeyKind::SpanTrigger, name, assignment)
-        }
+        Some(KeyKind::SpanTrigger) => { value_fault(alloc, KeyKind::SpanTrigger, name, assignment) }
         Some(KeyKind::StartedUnit) => unit_fault(alloc, name, counted, assignment),
         _ => Ok(None),
     }

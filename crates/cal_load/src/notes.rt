@@ -3,25 +3,19 @@
 //! too, but not here: `Resolved::unclear` has them.
 
 ghost use Rattle.std.specs.Prelude.{◌≡◌, IfOk, OnOk, filter, map, not, string_bytes};
-ghost use Rattle.std.specs.List.{list_any, slice_split};
+ghost use Rattle.std.specs.List.{list_any};
 ghost use Rattle.cal_timer.specs.rules.Keys.{kind_of};
 ghost use Rattle.cal_timer.specs.rules.TimerText.{is_reset};
 ghost use Rattle.cal_read.specs.rules.SectionAssignments.{shown_owned_assignment};
-ghost use Rattle.cal_unit_index.specs.rules.Destinations.{last_part};
-ghost use Rattle.cal_unit_index.specs.rules.SearchPath.{is_slash};
-ghost use Rattle.cal_unit_index.specs.rules.UnitName.{without_suffix};
 ghost use Rattle.cal_load.specs.rules.Notes.{is_at, is_monotonic, is_noted, is_started, is_taken, kept_in, kept_with, last_counts, names_unit, note_text, noted_of, notes_in, replaces, service_of, starts, starts_unit, undoes, unit_line};
 
 use cal_read::{Assignment, OwnedAssignment};
-use cal_settings::{is_longer, is_taken_as, is_yes};
 use cal_timer::{KeyKind, kind_of};
+use cal_unit_index::{is_longer, is_taken_as, is_yes, last_part, without_suffix};
 use std::alloc::{AllocError, Global};
 
 /// How accurate a timer is by default, in microseconds: one minute.
 const DEFAULT_ACCURACY: u64 = 60_000_000;
-
-/// The suffix of a timer's name.
-const SUFFIX: &str = ".timer";
 
 /// Returns those of the assignments that are noted for the timer with this name. `name` is the name of a unit, or the
 /// path of a file that is read by itself: then the timer's own name is the part after the last slash.
@@ -156,23 +150,6 @@ pub(crate) fn is_taken(assignment: &OwnedAssignment) -> bool
     }
 }
 
-/// Returns the part of a path after its last slash.
-pub(crate) fn last_part(alloc: Global, path: &str) -> Result<&str, AllocError>
-    ensures { IfOk result (λ part. part.now ≡ last_part path.now) }
-{
-    let parts = parts_of(alloc, path)?;
-    match parts.last() {
-        Some(part) => Ok(*part),
-        None => Ok(""),
-    }
-}
-
-fn parts_of(alloc: Global, path: &str) -> Result<Vec<&str>, AllocError>
-    ensures { IfOk result (λ parts. map (λ part. part.now) parts.items ≡ slice_split is_slash path.now) }
-{
-    path.split('/').collect(alloc)
-}
-
 /// Removes the assignments that aren't noted for the timer with the name `own`.
 fn retain_noted(alloc: Global, own: &str, kept: &mut Vec<OwnedAssignment>) -> Result<(), AllocError>
     ensures { OnOk result (map shown_owned_assignment kept.new.items
@@ -190,16 +167,6 @@ pub(crate) fn service_of(alloc: Global, own: &str) -> Result<String, AllocError>
 {
     let stem = without_suffix(own);
     Ok(format!(in alloc; "{stem}.service")?)
-}
-
-#[tactic(auto, unfolding(cal_unit_index::specs::rules::UnitName::without_suffix))]
-pub(crate) fn without_suffix(name: &str) -> &str
-    ensures { result.now ≡ without_suffix name.now }
-{
-    match name.strip_suffix(SUFFIX) {
-        Some(stem) => stem,
-        None => name,
-    }
 }
 
 /// Returns the number of the line whose `Unit=` counts: the first in `kept` that doesn't name the timer `own` itself.

@@ -10,11 +10,11 @@ ghost use Rattle.cal_load.specs.rules.Specifiers.{shown_filled};
 ghost use Rattle.cal_load.specs.rules.Specifiers.Filling.{Text, Unclear};
 
 use crate::calendar::borrowed;
-use crate::notes::{is_started, last_part};
+use crate::notes::is_started;
 use crate::specifiers::{Filled, fill, fill_unit};
 use cal_read::OwnedAssignment;
-use cal_settings::has_percent;
 use cal_timer::{KeyKind, kind_of};
+use cal_unit_index::{has_percent, last_part};
 use std::alloc::{AllocError, Global};
 
 /// The assignments of a timer with their specifiers filled in.
@@ -186,8 +186,7 @@ fn is_usable(text: &str) -> bool
 fn may_have_specifiers(assignment: &OwnedAssignment) -> bool
     ensures { result ≡ may_have_specifiers (shown_owned_assignment assignment.now) }
 {
-    has_percent(assignment.value.as_str())
-        && takes_specifiers(assignment.key.as_str())
+    has_percent(assignment.value.as_str()) && takes_specifiers(assignment.key.as_str())
 }
 
 fn takes_specifiers(key: &str) -> bool

@@ -19,9 +19,9 @@ use crate::texts::append;
 use cal_bytes::first_word;
 use cal_machine::Tree;
 use cal_read::OwnedAssignment;
-use cal_settings::stem_base;
 use cal_unit_index::{
-    DropInTexts, DropIns, SearchFolder, UnitIndex, UnitText, UnitType, find_drop_ins, read_drop_ins,
+    DropInTexts, DropIns, SearchFolder, UnitIndex, UnitText, UnitType, find_drop_ins,
+    read_drop_ins, stem_base,
 };
 use std::alloc::{AllocError, Global};
 

@@ -7,10 +7,8 @@ ghost use Rattle.cal_unit_index.specs.rules.UnitName.{is_template, without_suffi
 ghost use Rattle.cal_load.specs.rules.Specifiers.{after_backslash, checked, ends_specifier, filled_of, filling_of, hex_value, instance_in, is_dash, is_escape, is_hex, is_of_instance, is_of_system, is_strange_part, is_unclear, is_unknown_in_unit, joined, known_in, last_component_in, parts_of, prefix_in, shown_draft, shown_filled, slash_for_dash, slashed, specified, unescaped, unit_filled_of};
 ghost use Rattle.cal_load.specs.rules.Specifiers.Filling.{Text, Unclear, Invalid};
 
-use crate::notes::without_suffix;
-use cal_settings::stem_base;
 use cal_spec::first_piece;
-use cal_unit_index::{UnitKind, unit_kind_of};
+use cal_unit_index::{UnitKind, stem_base, unit_kind_of, without_suffix};
 use std::alloc::{AllocError, Global};
 
 /// A value with its specifiers filled in.

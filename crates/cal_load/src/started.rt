@@ -11,12 +11,14 @@ ghost use Rattle.cal_load.specs.rules.Notes.{names_unit};
 ghost use Rattle.cal_load.specs.rules.StartedUnit.{after_at, argument_of, completed, file_suffixes, has_entry, has_template, is_missing_in, is_missing_on, is_template_name, started_by, started_unit_of, unit_named};
 
 use crate::ignored::kept_in;
-use crate::notes::{last_part, names_unit, service_of, without_suffix};
+use crate::notes::{names_unit, service_of};
 use crate::specifiers::{instance_in, prefix_in};
 use cal_bytes::is_among;
 use cal_read::OwnedAssignment;
-use cal_settings::{has_percent, stem_base};
-use cal_unit_index::{SearchFolder, UnitIndex, UnitKind, UnitText, unit_kind_of};
+use cal_unit_index::{
+    SearchFolder, UnitIndex, UnitKind, UnitText, has_percent, last_part, stem_base, unit_kind_of,
+    without_suffix,
+};
 use std::alloc::{AllocError, Global};
 
 /// The suffixes of the units that can be missing ([`is_missing`]): these units need a file, and can be instances of a

@@ -10,3 +10,4 @@ pub mod SearchFolderLemmas
 pub mod SearchPathLemmas
 pub mod StartLemmas
 pub mod UnitNameLemmas
+pub mod WordLemmas

@@ -7,6 +7,7 @@ pub mod Index
 pub mod Names
 pub mod SearchFolders
 pub mod SearchPath
+pub mod Settings
 pub mod Starts
 pub mod UnitName
 pub mod Units

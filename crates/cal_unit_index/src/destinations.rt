@@ -121,7 +121,7 @@ fn alias_of<'p>(alloc: Global, stem: &str, place: &'p str) -> Result<Option<&'p 
 }
 
 /// Returns the part of a path after its last slash.
-fn last_part(alloc: Global, path: &str) -> Result<&str, AllocError>
+pub fn last_part(alloc: Global, path: &str) -> Result<&str, AllocError>
     ensures { IfOk result (λ part. part.now ≡ last_part path.now) }
 {
     let parts = parts_of(alloc, path)?;

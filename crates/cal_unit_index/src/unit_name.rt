@@ -1,11 +1,26 @@
-//! Names of timer units (systemd.unit(5), Description).
+//! Names of units (systemd.unit(5), Description).
 
-ghost use Rattle.std.specs.Prelude.{◌≡◌, option_map};
-ghost use Rattle.std.specs.List.{list_all};
-ghost use Rattle.cal_unit_index.specs.rules.UnitName.{file_stem, instance_of, is_name_byte, is_stem, is_template, listed_stem, may_be_linked, may_lead, stem_base, template_of, unit_kind_of, unit_stem, without_suffix};
+ghost use Rattle.std.specs.Prelude.{◌≡◌, map, option_map};
+ghost use Rattle.std.specs.List.{list_all, list_any};
+ghost use Rattle.cal_unit_index.specs.rules.UnitName.{file_stem, has_unit_suffix, instance_of, is_before_suffix, is_name_byte, is_stem, is_template, is_unit_name, listed_stem, may_be_linked, may_lead, stem_base, template_of, unit_kind_of, unit_stem, without_suffix};
 
 /// The suffix of a timer's name.
 const SUFFIX: &str = ".timer";
+
+/// The suffixes of units.
+const UNIT_SUFFIXES: [&[u8]; 11] = [
+    b".service",
+    b".socket",
+    b".device",
+    b".mount",
+    b".automount",
+    b".swap",
+    b".target",
+    b".path",
+    b".timer",
+    b".slice",
+    b".scope",
+];
 
 /// The maximum length of a unit's name with its suffix, in bytes.
 const MAX_NAME: usize = 255;
@@ -32,6 +47,26 @@ pub fn unit_stem(name: &str) -> Option<&str>
 {
     let stem = without_suffix(name);
     if is_stem(stem) { Some(stem) } else { None }
+}
+
+/// Returns whether `name` is the name of a unit or a template: it ends in the suffix of a unit and has something before
+/// it, doesn't begin with `@`, has only ASCII letters, digits and `:-_.\@`, and has at most 255 bytes.
+#[tactic(auto, unfolding(crate::specs::rules::UnitName::is_unit_name))]
+pub fn is_unit_name(name: &str) -> bool
+    ensures { result ≡ is_unit_name name.now }
+{
+    name.len() <= MAX_NAME
+        && !stem_base(name).is_empty()
+        && has_valid_bytes(name.as_bytes())
+        && has_unit_suffix(name.as_bytes())
+}
+
+/// Returns whether the name ends in the suffix of a unit, and has something before it.
+#[tactic(auto, unfolding(crate::specs::rules::UnitName::has_unit_suffix))]
+pub fn has_unit_suffix(name: &[u8]) -> bool
+    ensures { result ≡ has_unit_suffix name.now }
+{
+    has_any_suffix(&UNIT_SUFFIXES, name)
 }
 
 /// Returns the stem of a timer from the name of its file. Returns `None` if the name doesn't end in `.timer` or isn't a
@@ -128,8 +163,8 @@ pub(crate) fn template_of(stem: &str) -> Option<&str>
     None
 }
 
-/// Returns the part of a stem before its first `@`, or the whole stem if it has no `@`.
-pub(crate) fn stem_base(stem: &str) -> &str
+/// Returns the part of a name or a stem before its first `@`, or all of it if it has no `@`.
+pub fn stem_base(stem: &str) -> &str
     ensures { result.now ≡ stem_base stem.now }
 {
     match stem.split_once('@') {
@@ -138,8 +173,9 @@ pub(crate) fn stem_base(stem: &str) -> &str
     }
 }
 
+/// Returns the name without the suffix `.timer`, or the name itself if it doesn't have this suffix.
 #[tactic(auto, unfolding(crate::specs::rules::UnitName::without_suffix))]
-fn without_suffix(name: &str) -> &str
+pub fn without_suffix(name: &str) -> &str
     ensures { result.now ≡ without_suffix name.now }
 {
     match name.strip_suffix(SUFFIX) {
@@ -167,4 +203,16 @@ fn is_name_byte(byte: u8) -> bool
     ensures { result ≡ is_name_byte byte }
 {
     byte.is_ascii_alphanumeric() || b":-_.\\@".contains(&byte)
+}
+
+/// Returns whether the name ends in one of these suffixes, and has something before it.
+fn has_any_suffix(suffixes: &[&[u8]], name: &[u8]) -> bool
+    ensures { result ≡ list_any (is_before_suffix name.now) (map (λ suffix. suffix.now) suffixes.now) }
+{
+    for suffix in suffixes {
+        if suffix.len() < name.len() && name.ends_with(suffix) {
+            return true;
+        }
+    }
+    false
 }

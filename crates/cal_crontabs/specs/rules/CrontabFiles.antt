@@ -13,6 +13,7 @@ use Rattle.cal_machine.specs.rules.Prefix.{after_prefix}
 use Rattle.cal_unit_index.specs.rules.Files.{FileRead, file_at}
 use Rattle.cal_unit_index.specs.rules.Files.FileRead.{Mask, Unusable, Text}
 use Rattle.cal_unit_index.specs.rules.Index.{shown_fault}
+use Rattle.cal_unit_index.specs.rules.UnitName.{has_unit_suffix}
 use Rattle.cal_crontabs.specs.declared.crontabs.Crontabs as declared_crontabs
 use Rattle.cal_crontabs.specs.rules.Crontabs.{Crontab, crontab_of, file_faults, shown_crontab}
 use Rattle.cal_crontabs.specs.rules.Entries.{lines_of}
@@ -40,15 +41,6 @@ is_cron_place path = bytes_eq path (codes "/etc/crontab") || is_in_cron_folder p
 
 -- ## Content
 
--- the suffixes of the files of units (systemd.unit(5), Description), and the suffix of drop-ins
-abbrev pub unit_suffixes : List (List ℕ)
-unit_suffixes =
-    codes ".timer" ∷ codes ".conf" ∷ codes ".service" ∷ codes ".socket" ∷ codes ".device" ∷ codes ".mount"
-    ∷ codes ".automount" ∷ codes ".swap" ∷ codes ".target" ∷ codes ".path" ∷ codes ".slice" ∷ codes ".scope" ∷ []
-
-unfoldable pub has_unit_suffix : List ℕ → Bool
-has_unit_suffix path = list_any (ends_with nat_eq path) unit_suffixes
-
 -- whether a line begins with `[`, as a section header of a unit does
 abbrev pub is_header : List ℕ → Bool
 is_header [] = false
@@ -74,9 +66,10 @@ is_crontab_file read path Mask = false
 is_crontab_file read path (Unusable reason) = false
 is_crontab_file read path (Text bytes) = is_crontab_text read path bytes
 
--- whether a text can be the path of a crontab that cron itself doesn't read: it has a slash, and not the suffix of a unit
+-- whether a text can be the path of a crontab that cron itself doesn't read: it has a slash, but not the suffix of a
+-- unit or of a drop-in
 abbrev pub may_be_crontab : List ℕ → Bool
-may_be_crontab target = list_any is_slash target && not (has_unit_suffix target)
+may_be_crontab target = list_any is_slash target && not (has_unit_suffix target || ends_with nat_eq target (codes ".conf"))
 
 -- Whether a target is a crontab: cron looks for crontabs at its place, or it can be the path of a crontab and its file
 -- has the content of one. `read` reads time fields.

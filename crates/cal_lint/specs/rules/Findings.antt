@@ -4,7 +4,7 @@ use Rattle.std.specs.Prelude.{ℕ, ◌==◌, Bool, false, not, ◌&&◌, ◌||�
 use Rattle.std.specs.List.{find, flat_map}
 use Rattle.std.specs.Option.{option_map, option_to_list}
 use Rattle.std.specs.Str.Lines.{lines}
-use Rattle.cal_settings.specs.rules.Settings.{has_percent}
+use Rattle.cal_unit_index.specs.rules.Settings.{has_percent}
 use Rattle.cal_timer.specs.rules.Lines.{Line, logical_lines}
 use Rattle.cal_spec.specs.computed.Expr.{expr_in}
 use Rattle.cal_spec.specs.declared.spec_fault.SpecFault.{SpecFault}

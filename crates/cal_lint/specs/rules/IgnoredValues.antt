@@ -1,7 +1,7 @@
 -- Settings that systemd ignores because of their values: systemd.timer(5), Options.
 use Rattle.std.specs.Prelude.{ℕ, Bool, ◌||◌, if◌then◌else◌, List, Option, None, Some}
 use Rattle.cal_timer.specs.declared.keys.KeyKind.{KeyKind}
-use Rattle.cal_settings.specs.rules.Settings.{is_taken_as}
+use Rattle.cal_unit_index.specs.rules.Settings.{is_taken_as}
 use Rattle.cal_timer.specs.rules.Assignments.{Assignment}
 use Rattle.cal_timer.specs.rules.Keys.{kind_of}
 use Rattle.cal_timer.specs.rules.TimerText.{is_reset}

@@ -4,7 +4,7 @@ use Rattle.std.specs.Prelude.{ℕ, ◌==◌, nat_eq, Bool, not, ◌&&◌, ◌||�
 use Rattle.std.specs.List.{ends_with, list_all, list_any}
 use Rattle.std.specs.Str.{bytes_eq}
 use Rattle.cal_bytes.specs.rules.Separators.{words}
-use Rattle.cal_settings.specs.rules.Settings.{is_unit_name}
+use Rattle.cal_unit_index.specs.rules.UnitName.{is_unit_name}
 use Rattle.cal_timer.specs.rules.Assignments.{Assignment}
 
 -- whether the values of a key are names of units

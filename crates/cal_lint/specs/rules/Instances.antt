@@ -4,7 +4,7 @@ use Rattle.std.specs.Prelude.{ℕ, ◌==◌, ◌||◌, ◌++◌, Bool, false, no
 use Rattle.std.specs.List.{after_first, before_first, list_any}
 use Rattle.std.specs.Option.{option_and_then, option_map_or}
 use Rattle.std.specs.Result.{is_ok}
-use Rattle.cal_settings.specs.rules.Settings.{has_percent}
+use Rattle.cal_unit_index.specs.rules.Settings.{has_percent}
 use Rattle.cal_spec.specs.computed.Expr.{expr_in}
 
 -- The instances that are tried: shorthands and their beginnings, weekdays, numbers of each component, dates, times, and

@@ -11,7 +11,7 @@ use Rattle.cal_unit_index.specs.rules.Destinations.{last_part}
 use Rattle.cal_unit_index.specs.rules.Files.{UnitText}
 use Rattle.cal_timer.specs.declared.keys.KeyKind.{KeyKind}
 use Rattle.cal_timer.specs.declared.keys.KeyKind.TheVariants.{SpanTrigger, StartedUnit}
-use Rattle.cal_settings.specs.rules.Settings.{has_percent}
+use Rattle.cal_unit_index.specs.rules.Settings.{has_percent}
 use Rattle.cal_timer.specs.rules.Keys.{kind_of}
 use Rattle.cal_load.specs.declared.ignored.IgnoredSetting.{IgnoredSetting}
 use Rattle.cal_load.specs.declared.ignored.WhyIgnored.{WhyIgnored}

@@ -11,7 +11,7 @@ use Rattle.cal_unit_index.specs.rules.Destinations.{last_part}
 use Rattle.cal_unit_index.specs.rules.UnitName.{without_suffix}
 use Rattle.cal_timer.specs.declared.keys.KeyKind.{KeyKind}
 use Rattle.cal_timer.specs.declared.keys.KeyKind.TheVariants.{SpanTrigger, ChangeTrigger, CalendarTrigger, Exception, TimingBoolean, OtherBoolean, Delay, Accuracy, StartedUnit}
-use Rattle.cal_settings.specs.rules.Settings.{is_longer, is_taken_as, is_yes}
+use Rattle.cal_unit_index.specs.rules.Settings.{is_longer, is_taken_as, is_yes}
 
 -- ## Assignments
 

@@ -8,7 +8,7 @@ use Rattle.cal_timer.specs.rules.TimerText.{is_exception, is_expression, is_rese
 use Rattle.cal_timer.specs.declared.keys.KeyKind.{KeyKind}
 use Rattle.cal_timer.specs.declared.keys.KeyKind.TheVariants.{SpanTrigger, CalendarTrigger, Exception, StartedUnit}
 use Rattle.cal_unit_index.specs.rules.Destinations.{last_part}
-use Rattle.cal_settings.specs.rules.Settings.{has_percent}
+use Rattle.cal_unit_index.specs.rules.Settings.{has_percent}
 use Rattle.cal_load.specs.rules.Notes.{is_started}
 use Rattle.cal_load.specs.rules.Specifiers.{Filling, filled_of, unit_filled_of}
 use Rattle.cal_load.specs.rules.Specifiers.Filling.{Text, Unclear, Invalid}

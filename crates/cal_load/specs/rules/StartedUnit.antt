@@ -11,7 +11,7 @@ use Rattle.cal_unit_index.specs.rules.Destinations.{is_among, last_part}
 use Rattle.cal_unit_index.specs.rules.Files.{UnitText}
 use Rattle.cal_unit_index.specs.rules.Index.{Searched, searched}
 use Rattle.cal_unit_index.specs.rules.UnitName.{stem_base, unit_kind_of, without_suffix}
-use Rattle.cal_settings.specs.rules.Settings.{has_percent}
+use Rattle.cal_unit_index.specs.rules.Settings.{has_percent}
 use Rattle.cal_load.specs.rules.Loaded.{timer_assignments}
 use Rattle.cal_load.specs.rules.Notes.{kept_in, names_unit, service_of}
 use Rattle.cal_load.specs.rules.Specifiers.{instance_in, prefix_in}

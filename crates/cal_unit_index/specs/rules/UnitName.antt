@@ -1,5 +1,5 @@
--- Names of timer units: systemd.unit(5), Description. The stem of a name is the name without its suffix `.timer`.
-use Rattle.std.specs.Prelude.{ℕ, ◌+◌, ◌-◌, ◌==◌, nat_eq, nat_lt, nat_le, Bool, true, false, not, ◌&&◌, ◌||◌, if◌then◌else◌, List, Option, None, Some, codes, drop, length, take}
+-- Names of units: systemd.unit(5), Description. The stem of a timer's name is the name without its suffix `.timer`.
+use Rattle.std.specs.Prelude.{ℕ, ◌+◌, ◌-◌, ◌==◌, nat_eq, nat_lt, nat_le, Bool, true, false, not, ◌&&◌, ◌||◌, if◌then◌else◌, List, [], ◌∷◌, Option, None, Some, codes, drop, length, take}
 use Rattle.std.specs.List.{before_first, ends_with, list_all, list_any, starts_with}
 use Rattle.std.specs.Str.{bytes_eq}
 use Rattle.cal_unit_index.specs.declared.unit_name.UnitKind.{UnitKind}
@@ -58,6 +58,26 @@ file_stem name = if ends_with nat_eq name suffix then unit_stem name else None
 -- out
 unfoldable pub listed_stem : List ℕ → Option (List ℕ)
 listed_stem name = if starts_with nat_eq name (codes ".") then None else file_stem name
+
+-- ## Units of any type
+
+-- the suffixes of the names of units
+abbrev pub unit_suffixes : List (List ℕ)
+unit_suffixes =
+    codes ".service" ∷ codes ".socket" ∷ codes ".device" ∷ codes ".mount" ∷ codes ".automount" ∷ codes ".swap"
+    ∷ codes ".target" ∷ codes ".path" ∷ codes ".timer" ∷ codes ".slice" ∷ codes ".scope" ∷ []
+
+abbrev pub is_before_suffix : List ℕ → List ℕ → Bool
+is_before_suffix name suffix = nat_lt (length suffix) (length name) && ends_with nat_eq name suffix
+
+unfoldable pub has_unit_suffix : List ℕ → Bool
+has_unit_suffix name = list_any (is_before_suffix name) unit_suffixes
+
+-- whether this is the name of a unit or of a template
+unfoldable pub is_unit_name : List ℕ → Bool
+is_unit_name name =
+    nat_le (length name) max_name
+    && (nat_lt 0 (length (stem_base name)) && (list_all is_name_byte name && has_unit_suffix name))
 
 -- ## Templates and instances
 

@@ -1,7 +1,7 @@
 use Rattle.std.proofs.Common.{◌<◌, ◌∙◌, arith, length, sym}
 use Rattle.std.specs.Str.{str_eq_ignore_ascii_case}
-use Rattle.cal_settings.proofs.WordLemmas.{same_word, word_found, word_passed}
-use Rattle.cal_settings.proofs.values.is_any.Goals as goal
+use Rattle.cal_unit_index.proofs.WordLemmas.{same_word, word_found, word_passed}
+use Rattle.cal_unit_index.proofs.setting_values.is_any.Goals as goal
 
 pub returns-then-eq_ignore_ascii_case : goal.returns-then-eq_ignore_ascii_case
 returns-then-eq_ignore_ascii_case c =

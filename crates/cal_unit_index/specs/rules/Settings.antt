@@ -1,11 +1,11 @@
 -- Which values systemd accepts for the settings of the section `Timer` other than expressions and exceptions
 -- (systemd.timer(5), Options).
-use Rattle.std.specs.Prelude.{ℕ, nat_eq, nat_lt, nat_le, Bool, true, false, ◌&&◌, ◌||◌, List, [], ◌∷◌, length, Option, Some, None, Ok, Err, Result, codes}
-use Rattle.std.specs.List.{ends_with, list_all, list_any}
+use Rattle.std.specs.Prelude.{ℕ, nat_eq, nat_lt, Bool, true, false, ◌||◌, List, [], ◌∷◌, Option, Some, None, Ok, Err, Result, codes}
+use Rattle.std.specs.List.{list_any}
 use Rattle.std.specs.Str.{bytes_eq, str_eq_ignore_ascii_case}
 use Rattle.cal_span.specs.computed.SpanValue.{span_of}
 use Rattle.cal_span.specs.declared.span.fault.SpanFault.{SpanFault}
-use Rattle.cal_unit_index.specs.rules.UnitName.{is_name_byte, max_name, stem_base}
+use Rattle.cal_unit_index.specs.rules.UnitName.{is_unit_name}
 use Rattle.cal_timer.specs.declared.keys.KeyKind.{KeyKind}
 use Rattle.cal_timer.specs.declared.keys.KeyKind.TheVariants.{SpanTrigger, ChangeTrigger, CalendarTrigger, Exception, TimingBoolean, OtherBoolean, Delay, Accuracy, StartedUnit}
 
@@ -45,24 +45,6 @@ is_longer least value = is_infinity value || is_span_over least (span_of value)
 -- whether the value has a `%`, with which every specifier begins (systemd.unit(5), Specifiers)
 abbrev pub has_percent : List ℕ → Bool
 has_percent value = list_any (nat_eq 37) value
-
--- the suffixes of the names of units (systemd.unit(5), Description)
-abbrev pub unit_suffixes : List (List ℕ)
-unit_suffixes =
-    codes ".service" ∷ codes ".socket" ∷ codes ".device" ∷ codes ".mount" ∷ codes ".automount" ∷ codes ".swap"
-    ∷ codes ".target" ∷ codes ".path" ∷ codes ".timer" ∷ codes ".slice" ∷ codes ".scope" ∷ []
-
-abbrev pub is_before_suffix : List ℕ → List ℕ → Bool
-is_before_suffix name suffix = nat_lt (length suffix) (length name) && ends_with nat_eq name suffix
-
-unfoldable pub has_unit_suffix : List ℕ → Bool
-has_unit_suffix name = list_any (is_before_suffix name) unit_suffixes
-
--- whether the value is the name of a unit or of a template (systemd.unit(5), Description)
-unfoldable pub is_unit_name : List ℕ → Bool
-is_unit_name name =
-    nat_le (length name) max_name
-    && (nat_lt 0 (length (stem_base name)) && (list_all is_name_byte name && has_unit_suffix name))
 
 -- ## Values of each kind
 

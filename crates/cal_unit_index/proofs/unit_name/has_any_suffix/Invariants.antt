@@ -1,8 +1,8 @@
 -- One of the remaining suffixes fits if and only if any suffix fits, because the suffixes so far don't.
 use Rattle.std.proofs.Common.{◌≡◌, drop, map}
 use Rattle.std.specs.List.{list_any}
-use Rattle.cal_settings.specs.rules.Settings.{is_before_suffix}
-use Rattle.cal_settings.proofs.values.has_any_suffix.Given as goal
+use Rattle.cal_unit_index.specs.rules.UnitName.{is_before_suffix}
+use Rattle.cal_unit_index.proofs.unit_name.has_any_suffix.Given as goal
 
 abbrev pub invariant-loop-suffix : goal.invariant-loop-suffix
 invariant-loop-suffix l =
