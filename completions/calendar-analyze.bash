@@ -1,5 +1,7 @@
 # Completion of calendar-analyze for bash: verbs, options with the form of their values, and the files that they take.
 
+@TABLE@
+
 _calendar_analyze_zones() {
     # Prints the names that an earlier --zones gives to its files.
     local words before='' word items item
@@ -45,13 +47,13 @@ _calendar_analyze_files() {
 _calendar_analyze_values() {
     local option=$1 value=$2 whole=$3 item=${2##*,}
     local head=${whole%"$value"}
-    case $option in
-    --zones) [ "$item" = "${item#*=}" ] || _calendar_analyze_files "$whole" "${item#*=}" '' ;;
-    --local)
+    case $(_calendar_analyze_value "$option") in
+    NAME=FILE,..) [ "$item" = "${item#*=}" ] || _calendar_analyze_files "$whole" "${item#*=}" '' ;;
+    ZONE)
         [ "$value" = "${value#posix:}" ] || return
         _calendar_analyze_offer "$whole" "$head" < <(compgen -W "UTC posix: $(_calendar_analyze_zones)" -- "$value")
         ;;
-    --now | --base-time)
+    @N | STAMP)
         [ "$value" = "${value#@}" ] || return
         _calendar_analyze_offer "$whole" "$head" < <(compgen -W '@' -- "$value")
         ;;
@@ -72,35 +74,37 @@ _calendar_analyze_texts() {
 
 _calendar_analyze() {
     # Takes the word at the cursor and the words before it from the line, because bash splits words at `=` and `:`.
-    local line=${COMP_LINE:0:COMP_POINT} verb=${COMP_WORDS[1]} options whole words
+    local line=${COMP_LINE:0:COMP_POINT} verb=${COMP_WORDS[1]} options whole words last
     line=${line#*"${COMP_WORDS[0]}"}
     [[ $line =~ ((\\.|[^[:space:]\\])*)$ ]] && whole=${BASH_REMATCH[1]}
     read -ra words <<< "${line%"$whole"}"
     COMPREPLY=()
     if [ "${#words[@]}" -eq 0 ]; then
-        _calendar_analyze_offer "$whole" '' < <(compgen -W 'calendar timestamp timespan timer help --help --version' -- "$whole")
+        options="$_calendar_analyze_verbs help $(_calendar_analyze_options '')"
+        _calendar_analyze_offer "$whole" '' < <(compgen -W "$options" -- "$whole")
         return
     fi
     case $verb in
     help)
         [ "${#words[@]}" -gt 1 ] ||
-            _calendar_analyze_offer "$whole" '' < <(compgen -W 'calendar timestamp timespan timer' -- "$whole")
+            _calendar_analyze_offer "$whole" '' < <(compgen -W "$_calendar_analyze_verbs" -- "$whole")
         return
         ;;
-    calendar | timer) options='--iterations= --base-time= --now= --zones= --local= --help' ;;
-    timestamp) options='--now= --zones= --local= --help' ;;
-    *) options=--help ;;
     esac
-    # After `--` all words are texts.
-    case " ${words[*]} ,${words[${#words[@]} - 1]},$whole" in
-    *' -- '*,*) _calendar_analyze_texts "$verb" "$whole" ;;
-    *,--iterations,* | *,--base-time,* | *,--now,* | *,--zones,* | *,--local,*)
-        _calendar_analyze_values "${words[${#words[@]} - 1]}" "$whole" "$whole"
-        ;;
-    *,--*=*) _calendar_analyze_values "${whole%%=*}" "${whole#*=}" "$whole" ;;
-    *,-*) _calendar_analyze_offer "$whole" '' < <(compgen -W "$options" -- "$whole") ;;
-    *) _calendar_analyze_texts "$verb" "$whole" ;;
-    esac
+    last=${words[${#words[@]} - 1]}
+    options=$(_calendar_analyze_options "$verb")
+    if [[ " ${words[*]} " == *' -- '* ]]; then
+        # After `--` all words are texts.
+        _calendar_analyze_texts "$verb" "$whole"
+    elif [ -n "$(_calendar_analyze_value "$last")" ]; then
+        _calendar_analyze_values "$last" "$whole" "$whole"
+    else
+        case $whole in
+        --*=*) _calendar_analyze_values "${whole%%=*}" "${whole#*=}" "$whole" ;;
+        -*) _calendar_analyze_offer "$whole" '' < <(compgen -W "$options" -- "$whole") ;;
+        *) _calendar_analyze_texts "$verb" "$whole" ;;
+        esac
+    fi
 }
 
 complete -F _calendar_analyze calendar-analyze

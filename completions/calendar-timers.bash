@@ -1,5 +1,7 @@
 # Completion of calendar-timers for bash: verbs, options with the form of their values, units and files.
 
+@TABLE@
+
 # Prints the folders that have the units of the system or, if $1 is `--user`, of the user.
 _calendar_timers_folders() {
     local config=${XDG_CONFIG_HOME-$HOME/.config} data=${XDG_DATA_HOME-$HOME/.local/share} every
@@ -44,16 +46,16 @@ _calendar_timers_offer() {
 _calendar_timers_values() {
     local option=$1 value=$2 whole=$3
     local head=${whole%"$value"}
-    case $option in
-    --zone | --in)
+    case $(_calendar_timers_value "$option") in
+    ZONE)
         [ "$value" = "${value#posix:}" ] || return
         _calendar_timers_offer "$whole" "$head" < <(compgen -W 'UTC posix:' -- "$value")
         ;;
-    --now)
+    @N)
         [ "$value" = "${value#@}" ] || return
         _calendar_timers_offer "$whole" "$head" < <(compgen -W '@' -- "$value")
         ;;
-    --root)
+    DIR)
         compopt -o filenames 2> /dev/null
         _calendar_timers_offer "$whole" "$head" < <(compgen -d -- "${value//\\/}")
         ;;
@@ -76,10 +78,10 @@ _calendar_timers_targets() {
 
 # Offers what the verb $1 takes after $4 arguments that are not options.
 _calendar_timers_words() {
-    local verb=$1 whole=$2 scope=$3 targets=$4 verbs='list show lint between same next due cron'
+    local verb=$1 whole=$2 scope=$3 targets=$4
     case $verb,$targets in
-    ,*) _calendar_timers_targets "$whole" "$scope" "$verbs help" ;;
-    help,0) _calendar_timers_offer "$whole" '' < <(compgen -W "$verbs" -- "$whole") ;;
+    ,*) _calendar_timers_targets "$whole" "$scope" "$_calendar_timers_verbs help" ;;
+    help,0) _calendar_timers_offer "$whole" '' < <(compgen -W "$_calendar_timers_verbs" -- "$whole") ;;
     help,* | same,2 | due,1) ;;
     between,0 | between,1)
         _calendar_timers_offer "$whole" '' < <(compgen -W 'now today yesterday tomorrow' -- "$whole")
@@ -98,7 +100,7 @@ _calendar_timers_words() {
 
 _calendar_timers() {
     # Takes the word at the cursor and the words before it from the line, because bash splits words at `=` and `:`.
-    local line=${COMP_LINE:0:COMP_POINT} verbs='list show lint between same next due cron' options=''
+    local line=${COMP_LINE:0:COMP_POINT} options=''
     local whole words word verb='' option='' ended='' scope='' targets=0
     line=${line#*"${COMP_WORDS[0]}"}
     [[ $line =~ ((\\.|[^[:space:]\\])*)$ ]] && whole=${BASH_REMATCH[1]}
@@ -108,27 +110,17 @@ _calendar_timers() {
     for word in "${words[@]}"; do
         case $option$ended,$word in
         -*,*) option='' ;;
-        ,--zone | ,--in | ,--count | ,-n | ,--now | ,--root) option=$word ;;
         ,--user) scope=--user ;;
         ,--) ended=yes verb=${verb:-list} ;;
-        ,-?*) ;;
+        ,-?*) [ -z "$(_calendar_timers_value "$word")" ] || option=$word ;;
         *)
             targets=$((targets + 1))
-            [ -n "$verb" ] || case " $verbs help " in *" $word "*) verb=$word targets=0 ;; esac
+            [ -n "$verb" ] || case " $_calendar_timers_verbs help " in *" $word "*) verb=$word targets=0 ;; esac
             verb=${verb:-list}
             ;;
         esac
     done
-    case $verb in
-    show) options='--count= --zone= --utc --in= --now= --root= --user --json --help' ;;
-    next) options='--count= --zone= --utc --in= --now= --root= --json --help' ;;
-    lint) options='--all --strict --zone= --utc --now= --root= --user --json --help' ;;
-    same | due) options='--zone= --utc --in= --now= --root= --user --json --help' ;;
-    cron) options='--root= --json --help' ;;
-    help) ;;
-    *) options='--all --cron --zone= --utc --in= --now= --root= --user --json --help' ;;
-    esac
-    [ -n "$verb" ] || options="$options --version"
+    options=$(_calendar_timers_options "$verb")
     case $option$ended,$whole in
     -*,*) _calendar_timers_values "$option" "$whole" "$whole" ;;
     ,--*=*) _calendar_timers_values "${whole%%=*}" "${whole#*=}" "$whole" ;;

@@ -47,7 +47,7 @@ function __calendar_timers_words
     for word in $words[2..-1]
         if test -n "$option"
             set option
-        else if contains -- $word --zone --in --count -n --now --root
+        else if contains -- $word $__calendar_timers_valued
             set option $word
         else if not string match -q -- '-*' $word
             echo $word
@@ -62,7 +62,7 @@ function __calendar_timers_verb_is
     set -l verb none
     if set -q words[1]
         set verb list
-        contains -- $words[1] show lint between same next due cron help; and set verb $words[1]
+        contains -- $words[1] $__calendar_timers_verbs help; and set verb $words[1]
     end
     contains -- $verb $argv
 end
@@ -72,43 +72,12 @@ function __calendar_timers_has
     test (count (__calendar_timers_words)) $argv
 end
 
-set -l none '__calendar_timers_verb_is none'
-set -l timers '__calendar_timers_verb_is none list show lint between same next due'
-set -l all '__calendar_timers_verb_is none list show lint between same next due cron'
 set -l times 'now today yesterday tomorrow'
-set -l folders '(__fish_complete_directories (commandline -ct) folder)'
 set -l expressions 'minutely hourly daily weekly monthly quarterly semiannually yearly'
 
 complete -c calendar-timers -f
-complete -c calendar-timers -n $none -a list -d 'list the next elapse of each timer, soonest first'
-complete -c calendar-timers -n $none -a show -d 'show the files of timers, their expressions and next elapses'
-complete -c calendar-timers -n $none -a lint -d 'check timer files for errors and likely mistakes'
-complete -c calendar-timers -n $none -a between -d 'list all elapses of timers in a time range'
-complete -c calendar-timers -n $none -a same -d 'check whether two timers elapse at the same instants'
-complete -c calendar-timers -n $none -a next -d 'show when calendar expressions next elapse'
-complete -c calendar-timers -n $none -a due -d 'check whether the run that starts now is due, for ExecCondition='
-complete -c calendar-timers -n $none -a cron -d 'translate the entries of crontabs to timer settings'
-complete -c calendar-timers -n $none -a help -d 'print help, or the help of a verb'
-complete -c calendar-timers -n $none -s V -l version -d 'print the version'
-complete -c calendar-timers -n $all -s h -l help -d 'print help'
-complete -c calendar-timers -n $timers -l zone -x -a '(__calendar_timers_zones)' -d 'local zone'
-complete -c calendar-timers -n $timers -l utc -d 'use UTC as the local zone'
-complete -c calendar-timers -n '__calendar_timers_verb_is none list show between same next due' -l in -x \
-    -a '(__calendar_timers_zones)' -d 'show times in this zone'
-complete -c calendar-timers -n $timers -l now -x -a '@' -d 'current time in Unix seconds'
-complete -c calendar-timers -n $timers -l root -x -a $folders -d 'look for units and zones below this directory'
-complete -c calendar-timers -n '__calendar_timers_verb_is cron' -l root -x -a $folders \
-    -d 'look for crontabs below this directory'
+@TABLE@
 complete -c calendar-timers -n '__calendar_timers_verb_is cron' -F
-complete -c calendar-timers -n $all -l json -d 'print JSON'
-complete -c calendar-timers -n '__calendar_timers_verb_is none list show lint between same due' -l user \
-    -d 'look for the units of the user, not of the system'
-complete -c calendar-timers -n '__calendar_timers_verb_is none list lint between' -s a -l all \
-    -d 'also take timers that no other unit starts'
-complete -c calendar-timers -n '__calendar_timers_verb_is none list between' -l cron -d 'also take the entries of crontabs'
-complete -c calendar-timers -n '__calendar_timers_verb_is lint' -l strict -d 'exit with status 1 for warnings, too'
-complete -c calendar-timers -n '__calendar_timers_verb_is show next' -s n -l count -x \
-    -d 'show at most N elapses, 1 to 1000000'
 complete -c calendar-timers -n '__calendar_timers_verb_is none list show lint' -a '(__calendar_timers_targets)'
 complete -c calendar-timers -n '__calendar_timers_verb_is between; and __calendar_timers_has -lt 3' -a $times
 complete -c calendar-timers -n '__calendar_timers_verb_is between; and __calendar_timers_has -ge 3' \
@@ -119,4 +88,4 @@ complete -c calendar-timers -n '__calendar_timers_verb_is next' -a $expressions
 complete -c calendar-timers -n '__calendar_timers_verb_is due; and __calendar_timers_has -eq 1' \
     -a '(__calendar_timers_targets)'
 complete -c calendar-timers -n '__calendar_timers_verb_is help; and __calendar_timers_has -eq 1' \
-    -a 'list show lint between same next due cron'
+    -a "$__calendar_timers_verbs"
