@@ -16,7 +16,7 @@ use crate::timers::{EXCEPT_EXCEPTIONS, EXCEPT_LINES, UNIT_LINES, expect_lists, e
 use cal_base::{Port, Rules, Zone, ZoneTable, place, read_whole};
 use cal_elapse::{Listed, Merge, Pending, Rising};
 use cal_read::{
-    Assignments, NumberedText, OwnedAssignment, find_faults, read_assignments, read_texts,
+    Assignments, NumberedText, OwnedAssignment, find_faults, read_texts,
 };
 use cal_spec::{fault_span, read_expr};
 use std::alloc::{AllocError, Global};
@@ -215,12 +215,6 @@ fn the_next_assignment(rt: HostRuntime) -> Result<(), Fail> {
             Err(fault.into())
         }
     }
-}
-
-#[test]
-fn all_assignments(rt: HostRuntime) -> Result<(), Fail> {
-    let all = read_assignments(rt.alloc(), "Timer", 1, ASSIGNMENTS)?;
-    ensure(all.len() == 2, "not two assignments")
 }
 
 #[test]

@@ -1,7 +1,7 @@
 //! Reading the assignments in all sections of a unit file that have a given name, such as `[Timer]`.
 
 use crate::shared::ensure;
-use cal_read::{OwnedAssignment, read_assignments};
+use cal_read::{Assignments, OwnedAssignment};
 use std::alloc::Global;
 use std::test::Fail;
 
@@ -64,23 +64,16 @@ fn is_assignment(found: &OwnedAssignment, (number, key, value): (u32, &str, &str
     found.number == number && found.key.as_str() == key && found.value.as_str() == value
 }
 
-/// Returns whether the assignments are exactly the expected ones, in this order.
-fn are_assignments(all: &[OwnedAssignment], expected: &[(u32, &str, &str)]) -> bool {
-    if all.len() != expected.len() {
-        return false;
-    }
-    for (found, row) in all.iter().zip(expected) {
-        if !is_assignment(found, *row) {
-            return false;
+/// Expects the sections with this name in [`EXAMPLE`] to have these assignments, in this order, and no others.
+fn expect_section(alloc: Global, (section, expected): &Row) -> Result<(), Fail> {
+    let mut assignments = Assignments::new(section, 1, EXAMPLE);
+    for row in *expected {
+        match assignments.next(alloc)? {
+            Some(found) => ensure(is_assignment(&found, *row), section)?,
+            None => return Err("an assignment is missing".into()),
         }
     }
-    true
-}
-
-/// Expects the sections with this name in [`EXAMPLE`] to have these assignments.
-fn expect_section(alloc: Global, (section, expected): &Row) -> Result<(), Fail> {
-    let all = read_assignments(alloc, section, 1, EXAMPLE)?;
-    ensure(are_assignments(&all, expected), section)
+    ensure(assignments.next(alloc)?.is_none(), section)
 }
 
 #[test]

@@ -14,5 +14,5 @@ pub use cal_timer::{
     section, trim, without_mark,
 };
 pub use faults::find_faults;
-pub use section_assignments::{Assignments, OwnedAssignment, read_assignments};
+pub use section_assignments::{Assignments, OwnedAssignment};
 pub use texts::{FileFault, NumberedText, read_texts};

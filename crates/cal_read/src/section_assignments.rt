@@ -143,23 +143,3 @@ fn to_owned_assignment(
         value: String::from_str(alloc, assignment.value)?,
     })
 }
-
-/// Returns the assignments in all sections with this name. The first line of the text has the number `first`. Lines
-/// before the first section header belong to no section. A byte order mark is not removed. Fails only if allocation
-/// fails.
-pub fn read_assignments(
-    alloc: Global,
-    section: &str,
-    first: u32,
-    text: &str,
-) -> Result<Vec<OwnedAssignment>, AllocError>
-    requires { first + length text.now < 2 ^ 32 }
-    ensures { IfOk result (λ all. map shown_owned_assignment all.items ≡ section_assignments section.now false (logical_lines first text.now)) }
-{
-    let mut all = Vec::new(alloc);
-    let mut assignments = Assignments::new(section, first, text);
-    while let Some(assignment) = assignments.next(alloc)? {
-        all.push(assignment)?;
-    }
-    Ok(all)
-}
