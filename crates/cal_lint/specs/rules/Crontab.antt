@@ -1,9 +1,13 @@
 -- The five fields of a line of a crontab: crontab(5). Blanks separate the fields.
-use Rattle.std.specs.Prelude.{ℕ, ◌==◌, Bool, false, ◌&&◌, ◌||◌, List, [], ◌∷◌, Option, None, Some}
+use Rattle.std.specs.Prelude.{ℕ, ◌==◌, Bool, false, ◌&&◌, ◌||◌, if◌then◌else◌, is_some, List, [], ◌∷◌, Option, None, Some, Result, Ok, Err}
 use Rattle.std.specs.Char.{is_ascii_digit}
 use Rattle.std.specs.List.{list_all}
 use Rattle.std.specs.Option.{option_map_or}
 use Rattle.cal_bytes.specs.rules.Separators.{words}
+use Rattle.cal_cron.specs.computed.Translation.{exprs_in}
+use Rattle.cal_cron.specs.declared.cron_fault.CronFault.{CronFault}
+use Rattle.cal_cron.specs.rules.CronMatch.{CronExprs}
+use Rattle.cal_spec.specs.rules.ExprText.{expr_text}
 use Rattle.cal_lint.specs.declared.crontab.CrontabFields as declared_fields
 
 pub record CrontabFields : Type 0 where
@@ -36,3 +40,14 @@ are_crontab f =
 -- whether the text looks like the five fields of a crontab
 unfoldable pub is_crontab : List ℕ → Bool
 is_crontab text = option_map_or are_crontab (five_words (words text)) false
+
+-- the normal form of an expression that alone elapses when cron runs the line; empty if the line takes two expressions,
+-- or if cron rejects it
+abbrev pub single_expression : Result CronExprs CronFault → List ℕ
+single_expression (Ok exprs) = if is_some exprs.other then [] else expr_text exprs.first
+single_expression (Err fault) = []
+
+-- The expression to write instead of the fields of a crontab, or an empty text if there is none. By the law
+-- `expressions_elapse_when_cron_runs` of `cal_cron`, it elapses exactly when cron runs the line.
+unfoldable pub crontab_expression : List ℕ → List ℕ
+crontab_expression text = single_expression (exprs_in text)
