@@ -18,6 +18,6 @@ pub use cal_span::{
 };
 pub use cal_zone::{
     Civil, Instant, InstantFormatter, LoadFault, MICROS_PER_SECOND, Moment, PlaceCache, Rules,
-    Setting, Zone, ZoneFault, ZoneName, ZoneTable, civil, laws, load_named, load_zone, place,
-    push_instant, settle, write_instant,
+    Setting, Zone, ZoneArgument, ZoneFault, ZoneName, ZoneTable, civil, laws, load_named,
+    load_zone, place, push_instant, settle, write_instant,
 };

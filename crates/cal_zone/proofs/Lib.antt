@@ -10,5 +10,6 @@ pub mod RuleLemmas
 pub mod SameOffsetLemmas
 pub mod WeekdayLemmas
 pub mod YearLemmas
+mod ZoneArgumentRows
 pub mod ZoneLemmas
 pub mod ZoneMapLemmas

@@ -11,6 +11,7 @@ pub mod Place
 pub mod Rules
 pub mod Setting
 pub mod Zone
+pub mod ZoneArgument
 pub mod ZoneFault
 pub mod ZoneFile
 pub mod ZoneTable
