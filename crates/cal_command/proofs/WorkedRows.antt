@@ -4,8 +4,9 @@ use Rattle.clap.proofs.OnLiterals.{clap_on_literals}
 use Rattle.cal_command.specs.rules.CommandFault.{bad_iterations, help, usage}
 use Rattle.cal_command.specs.rules.CommandLine.{IsAskOf, ask_in, faults_in, parsed_in, read_options, takes_arguments}
 use Rattle.cal_command.specs.rules.VerbMatches.{verb_matches_in}
-use Rattle.cal_command.specs.rules.OptionValues.{count_in, local_zone_in, number_between, present_in, zone_item_in, zone_items_in, zones_in}
+use Rattle.cal_command.specs.rules.OptionValues.{count_in, number_between, present_in, zone_item_in, zone_items_in, zones_in}
 use Rattle.cal_civil.specs.rules.ZoneName.{is_utc_name, is_zone_name}
+use Rattle.cal_zone.specs.rules.ZoneArgument.{zone_argument_in}
 use Rattle.cal_command.specs.rules.WorkedArguments.{daily_matches, daily_ask, daily_arguments, help_arguments, none_arguments, options_ask, options_arguments, stray_arguments}
 
 pub daily_taken : takes_arguments daily_arguments ≡ true
@@ -25,7 +26,7 @@ unfolding takes_arguments clap_on_literals
 options_taken = refl
 
 pub options_asked : IsAskOf options_arguments (Ok options_ask)
-unfolding faults_in ask_in parsed_in verb_matches_in read_options count_in number_between present_in zones_in zone_items_in zone_item_in local_zone_in is_utc_name is_zone_name clap_on_literals
+unfolding faults_in ask_in parsed_in verb_matches_in read_options count_in number_between present_in zones_in zone_items_in zone_item_in zone_argument_in is_utc_name is_zone_name clap_on_literals
 options_asked = (refl, refl)
 
 pub none_asked : IsAskOf none_arguments (Err bad_iterations)

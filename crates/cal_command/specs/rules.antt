@@ -2,7 +2,6 @@
 pub mod Ask
 pub mod CommandFault
 pub mod CommandLine
-pub mod LocalZone
 pub mod OptionValues
 pub mod VerbMatches
 pub mod WorkedArguments

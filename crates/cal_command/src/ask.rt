@@ -2,10 +2,10 @@
 
 ghost use Rattle.std.specs.Prelude.{◌≡◌, ◌<◌, true, string_bytes, vec_len};
 ghost use Rattle.cal_civil.specs.rules.ZoneName.{is_zone_name};
-ghost use Rattle.cal_command.specs.rules.LocalZone.{IsLocalOffset};
+ghost use Rattle.cal_zone.specs.rules.ZoneArgument.{HasOffset};
 
 use cal_request::Request;
-use cal_zone::Instant;
+use cal_zone::{Instant, ZoneArgument};
 
 /// A parsed command line: a request, with the present and the zones that were given.
 ///
@@ -17,24 +17,11 @@ pub struct Ask {
     /// The instant that `--now` gives as the present, or `None` if the system's clock is to be read.
     pub now: Option<Instant>,
     /// The local zone of `--local`, UTC by default.
-    pub local: LocalZone,
+    pub local: ZoneArgument,
     /// The zone files of `--zones`, in the order of the arguments.
     pub zones: Vec<ZoneItem>,
     ghost some_text: { 0 < vec_len request.texts },
-    ghost offset: { IsLocalOffset local },
-}
-
-/// The local zone as it is given on the command line, before rules are parsed and names are looked up.
-#[derive(Debug, Drop)]
-pub enum LocalZone {
-    /// UTC, which is also the default.
-    Utc,
-    /// A fixed UTC offset in seconds: whole minutes, from -93,540 to 93,540.
-    Offset(i32),
-    /// A POSIX rule, not parsed yet.
-    Posix(String),
-    /// The name of a zone, not looked up yet.
-    Name(String),
+    ghost offset: { HasOffset local },
 }
 
 /// An item of `--zones`: a zone file, and the name for its zone.

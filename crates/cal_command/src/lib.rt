@@ -12,5 +12,7 @@ mod value_option;
 mod verb_help;
 mod verb_matches;
 
-pub use ask::{Ask, LocalZone, ZoneItem};
+pub use ask::{Ask, ZoneItem};
+/// The type of [`Ask::local`]. Users of this crate know it by this name; the crates here call it `ZoneArgument`.
+pub use cal_zone::ZoneArgument as LocalZone;
 pub use command_fault::CommandFault;

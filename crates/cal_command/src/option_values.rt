@@ -9,15 +9,14 @@ ghost use Rattle.std.specs.Prelude.{◌≡◌, ◌≤◌, ◌<◌, ◌==◌, ◌
 ghost use Rattle.std.specs.List.{slice_split};
 ghost use Rattle.std.specs.Option.{option_copied, option_map_or};
 ghost use Rattle.cal_bytes.specs.computed.SplitPieces.{left, pieces_after};
-ghost use Rattle.cal_command.specs.rules.Ask.{in_utc, shown_local, texts_of, shown_item};
-ghost use Rattle.cal_command.specs.rules.LocalZone.{IsLocalOffset};
+ghost use Rattle.cal_command.specs.rules.Ask.{texts_of, shown_item};
 ghost use Rattle.cal_bytes.specs.rules.Separators.{is_comma};
-ghost use Rattle.cal_command.specs.rules.OptionValues.{count_in, local_zone_in, number_between, parts_at, present_in, zone_item_in, zones_in};
+ghost use Rattle.cal_command.specs.rules.OptionValues.{count_in, number_between, parts_at, present_in, zone_item_in, zones_in};
 ghost use Rattle.cal_request.specs.rules.Verb.{IsCount};
+ghost use Rattle.cal_zone.specs.rules.ZoneArgument.{HasOffset, in_utc, shown_zone_argument, zone_argument_in};
 
-use crate::ask::{LocalZone, ZoneItem};
-use cal_civil::{is_utc_name, is_zone_name, read_offset};
-use cal_zone::{Instant, ZoneName};
+use crate::ask::ZoneItem;
+use cal_zone::{Instant, ZoneArgument, ZoneName};
 use std::alloc::{AllocError, Global};
 
 /// The maximum of `--iterations`. A greater number is an error.
@@ -78,14 +77,14 @@ pub(crate) fn zones_of(
 pub(crate) fn local_zone_of(
     alloc: Global,
     text: Option<&str>,
-) -> Result<Option<LocalZone>, AllocError>
-    ensures value { IfOk result (λ local. option_map shown_local local
-        ≡ option_map_or local_zone_in (option_copied text.entry) (Some in_utc)) }
-    ensures offset { IfOk result (λ local. IfSome local IsLocalOffset) }
+) -> Result<Option<ZoneArgument>, AllocError>
+    ensures value { IfOk result (λ local. option_map shown_zone_argument local
+        ≡ option_map_or zone_argument_in (option_copied text.entry) (Some in_utc)) }
+    ensures offset { IfOk result (λ local. IfSome local HasOffset) }
 {
     match text {
-        Some(text) => local_zone_in(alloc, text),
-        None => Ok(Some(LocalZone::Utc)),
+        Some(text) => ZoneArgument::read(alloc, text),
+        None => Ok(Some(ZoneArgument::Utc)),
     }
 }
 
@@ -181,26 +180,6 @@ fn parts_at(text: &str, separator: char) -> Option<(&str, &str)>
     ensures { option_map (λ parts. (parts.0.now, parts.1.now)) result ≡ parts_at (λ byte. byte == separator) text.now }
 {
     text.split_once(separator)
-}
-
-/// Parses a local zone. A rule after `posix:` isn't checked here. An offset is never mistaken for a name, since names
-/// begin with a letter.
-#[tactic(auto, unfolding(crate::specs::rules::OptionValues::local_zone_in))]
-fn local_zone_in(alloc: Global, text: &str) -> Result<Option<LocalZone>, AllocError>
-    ensures value { IfOk result (λ local. option_map shown_local local ≡ local_zone_in text.now) }
-    ensures offset { IfOk result (λ local. IfSome local IsLocalOffset) }
-{
-    if is_utc_name(text) {
-        return Ok(Some(LocalZone::Utc));
-    }
-    if let Some(rule) = text.strip_prefix("posix:") {
-        return Ok(Some(LocalZone::Posix(String::from_str(alloc, rule)?)));
-    }
-    if is_zone_name(text.as_bytes()) {
-        return Ok(Some(LocalZone::Name(String::from_str(alloc, text)?)));
-    }
-    let offset = read_offset(text.as_bytes());
-    Ok(offset.map(LocalZone::Offset))
 }
 
 /// Copies the texts, so that the request owns them.

@@ -20,7 +20,8 @@ use Rattle.cal_zone.specs.declared.zone.Zone.{Zone as ClockZone}
 use Rattle.cal_zone.specs.declared.zone_fault.ZoneFault.TheVariants as zone
 use Rattle.cal_zone.specs.declared.zone_files.LoadFault.{LoadFault}
 use Rattle.cal_zone.specs.declared.zone_files.LoadFault.TheVariants.{ReadFailed, Zone}
-use Rattle.cal_command.specs.rules.Ask.{Ask, LocalZone, in_utc, at_offset, by_rule, of_name, ZoneItem}
+use Rattle.cal_zone.specs.rules.ZoneArgument.{ZoneArgument, in_utc, at_offset, by_rule, of_name}
+use Rattle.cal_command.specs.rules.Ask.{Ask, ZoneItem}
 use Rattle.cal_command.specs.rules.CommandFault.{CommandFault, usage, help, bad_value, bad_iterations, bad_local, bad_now, bad_zones, no_memory, nothing_asked}
 use Rattle.cal_command.specs.rules.CommandLine.{IsAskOf, ask_in, is_of_help, parsed_in, read_options, unless_bad, unless_empty}
 use Rattle.cal_command.specs.rules.OptionValues.{number_between, present_in}
@@ -88,8 +89,8 @@ instant_in_option (Some text) now h = instant_if_some (present_in text) now _ re
 
 -- if the values of all options are valid, then the value of `--now` is valid, and the resulting `ask` has it as its
 -- present
-read_in_turn : (iterations : Option ℕ) (now : Option (Option ℤ)) (zones : Option (List ZoneItem)) (local : Option LocalZone)
-    (made : ℕ → Option ℤ → List ZoneItem → LocalZone → Ask) (ask : Ask) → ((i : ℕ) (n : Option ℤ) (z : List ZoneItem) (l : LocalZone) → (made i n z l).now ≡ n)
+read_in_turn : (iterations : Option ℕ) (now : Option (Option ℤ)) (zones : Option (List ZoneItem)) (local : Option ZoneArgument)
+    (made : ℕ → Option ℤ → List ZoneItem → ZoneArgument → Ask) (ask : Ask) → ((i : ℕ) (n : Option ℤ) (z : List ZoneItem) (l : ZoneArgument) → (made i n z l).now ≡ n)
     → unless_bad bad_iterations iterations (λ i. unless_bad bad_now now (λ n. unless_bad bad_zones zones (λ z. unless_bad bad_local local (λ l. Ok (made i n z l))))) ≡ Ok ask
     → now ≡ Some ask.now
 read_in_turn None now zones local made ask kept h = cc
@@ -251,7 +252,7 @@ unless_fault : (found : Bool) (local : ClockZone) (stop : Stop) → IsFault stop
 unless_fault true local stop h = tt
 unless_fault false local stop h = h
 
-local_fault : (given : LocalZone) (table : ZoneMap) (local : ClockZone) → IfErr (local_by given table local) IsFault
+local_fault : (given : ZoneArgument) (table : ZoneMap) (local : ClockZone) → IfErr (local_by given table local) IsFault
 unfolding local_by
 local_fault in_utc table local = tt
 local_fault (at_offset seconds) table local = tt

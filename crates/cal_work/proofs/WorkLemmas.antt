@@ -21,7 +21,7 @@ use Rattle.cal_zone.specs.declared.zone.Zone.{Zone as ClockZone}
 use Rattle.cal_zone.specs.declared.zone_fault.ZoneFault.TheVariants as zone
 use Rattle.cal_timer.specs.rules.TimerEntries.{timer_file_limit}
 use Rattle.cal_stamp.specs.declared.fault.StampFault.{StampFault}
-use Rattle.cal_command.specs.rules.Ask.{Ask, LocalZone, in_utc, at_offset, by_rule, of_name, ZoneItem}
+use Rattle.cal_command.specs.rules.Ask.{Ask, ZoneItem}
 use Rattle.cal_command.specs.rules.CommandFault.{CommandFault, usage, help, bad_value, no_memory, shown_fault}
 use Rattle.cal_command.specs.rules.CommandLine.{IsAskOf}
 use Rattle.cal_zone.specs.rules.LoadZone.{IsLoaded, IsLoadFault, is_load_read_failed}
@@ -37,6 +37,7 @@ use Rattle.cal_work.specs.rules.Works.{SeesFor, SeesZones, ReadsZone}
 use Rattle.cal_command.specs.declared.command_fault.CommandFault as declared_fault
 use Rattle.cal_zone.specs.declared.zone_files.LoadFault.{LoadFault}
 use Rattle.cal_zone.specs.declared.zone_files.LoadFault.TheVariants.{ReadFailed, Zone}
+use Rattle.cal_zone.specs.rules.ZoneArgument.{ZoneArgument, in_utc, at_offset, by_rule, of_name}
 use Rattle.cal_request.specs.declared.request.RunFault.{RunFault}
 use Rattle.cal_request.specs.declared.request.RunFault.TheVariants.{OutFailed, ErrFailed, NoMemory}
 use Rattle.cal_request.specs.declared.request.Status.{Status}
@@ -269,7 +270,7 @@ unread_rule rule table true is h = absurd (h is)
 unread_rule rule table false is h = rw is refl
 
 -- if the local zone is given as a POSIX rule that `jiff` can't parse, then `local_by` returns `rule_stop`
-pub local_refused : (local : LocalZone) (table : ZoneMap) → IsBadRule local → local_by local table utc ≡ Err rule_stop
+pub local_refused : (local : ZoneArgument) (table : ZoneMap) → IsBadRule local → local_by local table utc ≡ Err rule_stop
 local_refused in_utc table h = absurd h
 local_refused (at_offset seconds) table h = absurd h
 local_refused (by_rule rule) table h = unread_rule rule table (is_some (rule_read rule)) refl h

@@ -5,10 +5,10 @@
 
 ghost use Rattle.std.specs.Prelude.{◌≡◌, ◌⊎◌, ℕ, List, Option, Result, Ok, Err, Some, None, true, false, is_err, map, option_map, IfOk, IfErr};
 ghost use Rattle.cal_bytes.specs.rules.Writes.{Writes};
-ghost use Rattle.cal_command.specs.rules.Ask.{shown_local, shown_ask, shown_item};
+ghost use Rattle.cal_command.specs.rules.Ask.{shown_ask, shown_item};
 ghost use Rattle.cal_command.specs.rules.Ask as asks;
 ghost use Rattle.cal_command.specs.rules.CommandLine.{IsAskOf};
-ghost use Rattle.cal_command.specs.rules.LocalZone.{IsLocalOffset};
+ghost use Rattle.cal_zone.specs.rules.ZoneArgument.{HasOffset, shown_zone_argument};
 ghost use Rattle.cal_work.specs.rules.Outcome.{instant_in};
 ghost use Rattle.cal_report.specs.rules.ReportLines.{Report};
 ghost use Rattle.cal_request.specs.rules.RequestView.{asked};
@@ -24,10 +24,10 @@ ghost use Rattle.cal_work.specs.rules.Works.{Reaches, ReportsFault, Works};
 use crate::stop::{Outlet, Stop, exit_status, write_stop};
 use crate::system::System;
 use cal_bytes::{Output, Sink};
-use cal_command::{Ask, CommandFault, LocalZone, ZoneItem};
+use cal_command::{Ask, CommandFault, ZoneItem};
 use cal_report::{run_texts, run_timer};
 use cal_request::{Request, RequestKind, RunFault, Status};
-use cal_zone::{Instant, LoadFault, Rules, Setting, Zone, ZoneTable, load_zone};
+use cal_zone::{Instant, LoadFault, Rules, Setting, Zone, ZoneArgument, ZoneTable, load_zone};
 use std::alloc::Global;
 use std::convert::AsStr;
 
@@ -186,11 +186,11 @@ fn load_stop(alloc: Global, name: &str, fault: LoadFault) -> Stop
 
 /// Parses the local zone if it is given as a POSIX rule. Returns `None` if it is given in another way. Fails with
 /// `Stop::LocalRule` if `jiff` can't parse the rule.
-fn read_rules(alloc: Global, local: &LocalZone) -> Result<Option<Rules>, Stop>
-    ensures rules { IfOk result (HasRules (shown_local local.now)) }
-    ensures refused { IfErr result (λ stop. StopsAs {X = Unit} stop (Err rule_stop) × IsBadRule (shown_local local.now)) }
+fn read_rules(alloc: Global, local: &ZoneArgument) -> Result<Option<Rules>, Stop>
+    ensures rules { IfOk result (HasRules (shown_zone_argument local.now)) }
+    ensures refused { IfErr result (λ stop. StopsAs {X = Unit} stop (Err rule_stop) × IsBadRule (shown_zone_argument local.now)) }
 {
-    let LocalZone::Posix(rule) = local else {
+    let ZoneArgument::Posix(rule) = local else {
         return Ok(None);
     };
     let rules = Rules::posix(alloc, rule.as_str()).map_err(|_| Stop::LocalRule)?;
@@ -200,23 +200,23 @@ fn read_rules(alloc: Global, local: &LocalZone) -> Result<Option<Rules>, Stop>
 /// Returns the local zone. If it is given as a POSIX rule, `rules` are the parsed rules. Fails with `Stop::LocalName`
 /// if the zone is given by a name that `table` doesn't have.
 fn local_zone<'t>(
-    local: &LocalZone,
+    local: &ZoneArgument,
     rules: &'t Option<Rules>,
     table: &'t ZoneTable,
 ) -> Result<Zone<'t>, Stop>
-    requires rules { HasRules (shown_local local.now) rules.now }
-    requires offset { IsLocalOffset local.now }
-    ensures { FindsLocal (λ zone. zone) (shown_local local.now) table.now result }
+    requires rules { HasRules (shown_zone_argument local.now) rules.now }
+    requires offset { HasOffset local.now }
+    ensures { FindsLocal (λ zone. zone) (shown_zone_argument local.now) table.now result }
 {
     match local {
-        LocalZone::Utc => Ok(Zone::utc()),
-        LocalZone::Offset(seconds) => Ok(Zone::offset(*seconds)),
-        LocalZone::Posix(_) => match rules {
+        ZoneArgument::Utc => Ok(Zone::utc()),
+        ZoneArgument::Offset(seconds) => Ok(Zone::offset(*seconds)),
+        ZoneArgument::Posix(_) => match rules {
             Some(rules) => Ok(Zone::rules(rules)),
             // `read_rules` has parsed the rules. They can't be parsed here, because the zone borrows them.
             None => unreachable!(),
         },
-        LocalZone::Name(name) => match table.find(name.as_str()) {
+        ZoneArgument::Name(name) => match table.find(name.as_str()) {
             Some(zone) => Ok(zone),
             None => Err(Stop::LocalName),
         },

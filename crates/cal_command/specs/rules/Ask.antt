@@ -5,23 +5,15 @@ use Rattle.std.specs.Borrow.{Bor}
 use Rattle.std.specs.String.{string_bytes}
 use Rattle.std.specs.Option.{option_map}
 use Rattle.cal_command.specs.declared.ask.Ask as declared_ask
-use Rattle.cal_command.specs.declared.ask.LocalZone as declared_local
-use Rattle.cal_command.specs.declared.ask.LocalZone.TheVariants.{Utc, Offset, Posix, Name}
 use Rattle.cal_command.specs.declared.ask.ZoneItem as declared_item
 use Rattle.cal_command.specs.declared.command_fault.CommandFault as declared_fault
 use Rattle.cal_command.specs.rules.CommandFault.{CommandFault, shown_fault}
 use Rattle.cal_request.specs.declared.verb.Verb.{Verb}
+use Rattle.cal_zone.specs.rules.ZoneArgument.{ZoneArgument, in_utc, shown_zone_argument}
 
 -- the bytes of each argument
 abbrev pub texts_of : List (Bor (List ℕ)) → List (List ℕ)
 texts_of = map (λ argument. argument.now)
-
--- the local zone as it is given: UTC itself, a UTC offset in seconds, a POSIX rule, or a name
-pub data LocalZone : Type 0 where
-  in_utc : LocalZone
-  at_offset : ℤ → LocalZone
-  by_rule : List ℕ → LocalZone
-  of_name : List ℕ → LocalZone
 
 -- the path of a zone file, and the name for its zone
 pub record ZoneItem : Type 0 where
@@ -35,19 +27,13 @@ pub record Ask : Type 0 where
   pub iterations : ℕ
   pub base : Option (List ℕ)
   pub now : Option ℤ
-  pub local : LocalZone
+  pub local : ZoneArgument
   pub zones : List ZoneItem
 
 -- what a verb and its texts ask for if no option is given: one elapse after the present instant, which is read from the
 -- system's clock; the local zone is UTC, and there are no zone files
 abbrev pub default_ask : Verb → List (List ℕ) → Ask
 default_ask verb texts = record { verb = verb; texts = texts; iterations = 1; base = None; now = None; local = in_utc; zones = [] }
-
-abbrev pub shown_local : declared_local.LocalZone → LocalZone
-shown_local Utc = in_utc
-shown_local (Offset seconds) = at_offset seconds
-shown_local (Posix rule) = by_rule (string_bytes rule)
-shown_local (Name name) = of_name (string_bytes name)
 
 abbrev pub shown_item : declared_item.ZoneItem → ZoneItem
 shown_item item = record { name = string_bytes item.name; path = string_bytes item.path }
@@ -59,7 +45,7 @@ shown_ask ask = record {
   iterations = ask.request.iterations;
   base = option_map string_bytes ask.request.base;
   now = option_map (λ now. now.secs) ask.now;
-  local = shown_local ask.local;
+  local = shown_zone_argument ask.local;
   zones = map shown_item ask.zones.items;
 }
 

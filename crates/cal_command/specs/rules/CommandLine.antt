@@ -9,11 +9,12 @@ use Rattle.clap.specs.declared.error.kind.ErrorKind.{ErrorKind}
 use Rattle.clap.specs.declared.error.kind.ErrorKind.TheVariants.{DisplayHelp, DisplayVersion, OutOfMemory}
 use Rattle.cal_request.specs.rules.Verb.{all_verbs, uses_instants, is_timer, seeks_elapses, verb_name}
 use Rattle.cal_request.specs.declared.verb.Verb.{Verb}
-use Rattle.cal_command.specs.rules.Ask.{Ask, in_utc}
+use Rattle.cal_command.specs.rules.Ask.{Ask}
 use Rattle.cal_command.specs.rules.CommandFault.{CommandFault, usage, help, bad_value, bad_iterations, bad_now, bad_zones, bad_local, no_memory, nothing_asked}
-use Rattle.cal_command.specs.rules.OptionValues.{count_in, local_zone_in, present_in, zones_in}
+use Rattle.cal_command.specs.rules.OptionValues.{count_in, present_in, zones_in}
 use Rattle.cal_command.specs.declared.value_option.ValueOption.{ValueOption}
 use Rattle.cal_command.specs.rules.VerbMatches.{VerbMatches, elapse_option, verb_matches_in, instant_option}
+use Rattle.cal_zone.specs.rules.ZoneArgument.{in_utc, zone_argument_in}
 
 -- ## The command, as it is described to `clap`
 
@@ -87,7 +88,7 @@ read_options found =
     unless_bad bad_iterations (option_map_or count_in (elapse_option found (codes "iterations")) (Some 1)) (λ iterations.
     unless_bad bad_now (option_map_or (λ text. option_map Some (present_in text)) (instant_option found (codes "now")) (Some None)) (λ now.
     unless_bad bad_zones (option_map_or zones_in (instant_option found (codes "zones")) (Some [])) (λ zones.
-    unless_bad bad_local (option_map_or local_zone_in (instant_option found (codes "local")) (Some in_utc)) (λ local. Ok (record {
+    unless_bad bad_local (option_map_or zone_argument_in (instant_option found (codes "local")) (Some in_utc)) (λ local. Ok (record {
       verb = found.verb;
       texts = found.texts;
       iterations = iterations;

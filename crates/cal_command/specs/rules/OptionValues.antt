@@ -1,13 +1,13 @@
--- How the values of options are parsed: `--iterations` of systemd-analyze(1), and this project's own `--now`, `--zones`
--- and `--local`. The value of `--base-time` is a timestamp, which isn't parsed here.
-use Rattle.std.specs.Prelude.{ℕ, ℤ, ◌&&◌, ◌==◌, Bool, pos, List, [], ◌∷◌, length, drop, Option, None, Some, codes, nat_eq, nat_lt, nat_le, if◌then◌else◌, unsigned_abs, option_and_then, option_map}
-use Rattle.std.specs.List.{after_first, before_first, list_any, slice_split, starts_with}
+-- How the values of options are parsed: `--iterations` of systemd-analyze(1), and this project's own `--now` and
+-- `--zones`. The value of `--local` is a `ZoneArgument` of `cal_zone`, and that of `--base-time` is a timestamp, which
+-- isn't parsed here.
+use Rattle.std.specs.Prelude.{ℕ, ℤ, ◌&&◌, ◌==◌, Bool, pos, List, [], ◌∷◌, length, Option, None, Some, nat_lt, nat_le, if◌then◌else◌, unsigned_abs, option_and_then, option_map}
+use Rattle.std.specs.List.{after_first, before_first, list_any, slice_split}
 use Rattle.std.specs.Str.{all_ascii_digits}
 use Rattle.std.specs.Str.Parse.{digits_value}
 use Rattle.cal_zone.specs.rules.Instant.{last_instant}
-use Rattle.cal_civil.specs.computed.ReadOffset.{offset_in}
-use Rattle.cal_civil.specs.rules.ZoneName.{is_utc_name, is_zone_name}
-use Rattle.cal_command.specs.rules.Ask.{LocalZone, in_utc, at_offset, by_rule, of_name, ZoneItem}
+use Rattle.cal_civil.specs.rules.ZoneName.{is_zone_name}
+use Rattle.cal_command.specs.rules.Ask.{ZoneItem}
 use Rattle.cal_request.specs.rules.Verb.{max_iterations}
 use Rattle.cal_bytes.specs.rules.Separators.{is_equals, is_comma}
 
@@ -56,11 +56,3 @@ max_zones = 64
 unfoldable pub zones_in : List ℕ → Option (List ZoneItem)
 zones_in text =
     let items = slice_split is_comma text in if nat_le (length items) max_zones then zone_items_in items else None
-
--- `--local`: `UTC` (ignoring case), `posix:` and a rule, a name that has the form of a zone's name, or an offset
-unfoldable pub local_zone_in : List ℕ → Option LocalZone
-local_zone_in text =
-    if is_utc_name text then Some in_utc
-    else if starts_with nat_eq text (codes "posix:") then Some (by_rule (drop 6 text))
-    else if is_zone_name text then Some (of_name text)
-    else option_map at_offset (offset_in text)

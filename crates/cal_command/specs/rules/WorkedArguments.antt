@@ -1,8 +1,9 @@
 -- Examples of arguments, and for some of them also what `clap` finds in them or what they ask for: systemd-analyze(1).
 use Rattle.std.specs.Prelude.{ℕ, List, [], ◌∷◌, None, Some, codes, pos}
-use Rattle.cal_command.specs.rules.Ask.{Ask, default_ask, of_name}
+use Rattle.cal_command.specs.rules.Ask.{Ask, default_ask}
 use Rattle.cal_command.specs.rules.VerbMatches.{VerbMatches}
 use Rattle.cal_request.specs.declared.verb.Verb.TheVariants.{Calendar}
+use Rattle.cal_zone.specs.rules.ZoneArgument.{of_name}
 use Rattle.clap.specs.declared.builder.value_parser.Reading.TheVariants as reading
 use Rattle.clap.specs.declared.parser.matches.ValueSource.TheVariants as source
 

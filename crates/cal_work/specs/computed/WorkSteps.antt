@@ -10,7 +10,7 @@ use Rattle.jiff.specs.Placed.{IsPosixZone}
 use Rattle.cal_bytes.specs.rules.Writes.{AppendsFront, Writes}
 use Rattle.cal_zone.specs.rules.ZoneTable.{ZoneMap}
 use Rattle.cal_zone.specs.declared.zone.Zone.{Zone as ClockZone}
-use Rattle.cal_command.specs.rules.Ask.{Ask, LocalZone, in_utc, at_offset, by_rule, of_name, ZoneItem}
+use Rattle.cal_command.specs.rules.Ask.{Ask, ZoneItem}
 use Rattle.cal_work.specs.rules.Outcome.{World, ZoneFound, loaded, table_by, local_by, clock_by, present_by, outcome, outcome_of, run_by, out_text, err_text, outcome_status, ended_status}
 use Rattle.cal_report.specs.rules.ReportLines.{Report}
 use Rattle.cal_request.specs.rules.Request.{Request}
@@ -18,6 +18,7 @@ use Rattle.cal_work.specs.rules.Stop.{Stop, exit_status, stops_for_memory, stops
 use Rattle.cal_work.specs.rules.System.{Known, Seen, GivesTime}
 use Rattle.cal_work.specs.rules.Works.{Fits, FitsArguments, IsLocal, SeesFile, SeesZone, SeesZones}
 use Rattle.cal_zone.specs.declared.zone_files.LoadFault.{LoadFault}
+use Rattle.cal_zone.specs.rules.ZoneArgument.{ZoneArgument, in_utc, at_offset, by_rule, of_name}
 use Rattle.cal_request.specs.declared.request.RunFault.{RunFault}
 use Rattle.cal_request.specs.declared.request.RunFault.TheVariants.{OutFailed, ErrFailed, NoMemory}
 use Rattle.cal_request.specs.declared.request.Status.{Status}
@@ -71,7 +72,7 @@ pub record ReadsZones {T : Type 0} (view : T → ZoneMap) (known : Known) (items
   pub answers : Answers view result (table_by empty items found)
 
 -- if the local zone is given as a POSIX rule, `jiff` can parse this rule, and `rules` is the zone that it stands for
-abbrev pub HasRules : LocalZone → Option TimeZone → Type 0
+abbrev pub HasRules : ZoneArgument → Option TimeZone → Type 0
 HasRules in_utc rules = Unit {0}
 HasRules (at_offset seconds) rules = Unit {0}
 HasRules (by_rule rule) None = ⊥
@@ -79,14 +80,14 @@ HasRules (by_rule rule) (Some zone) = IsSome (rule_read rule) × IsPosixZone rul
 HasRules (of_name name) rules = Unit {0}
 
 -- the local zone is given as a POSIX rule that `jiff` can't parse
-abbrev pub IsBadRule : LocalZone → Type 0
+abbrev pub IsBadRule : ZoneArgument → Type 0
 IsBadRule in_utc = ⊥
 IsBadRule (at_offset seconds) = ⊥
 IsBadRule (by_rule rule) = IsSome (rule_read rule) → ⊥
 IsBadRule (of_name name) = ⊥
 
 -- what determining the local zone returned agrees with `local_by`; `zone` is the local zone as `jiff` represents it
-pub record FindsLocal {T : Type 0} (view : T → ClockZone) (local : LocalZone) (table : ZoneMap) (result : Result T declared_stop.Stop) : Type 0 where
+pub record FindsLocal {T : Type 0} (view : T → ClockZone) (local : ZoneArgument) (table : ZoneMap) (result : Result T declared_stop.Stop) : Type 0 where
   pub zone : ClockZone
   pub is_local : IfOk (local_by local table zone) (IsLocal local table)
   pub answers : Answers view result (local_by local table zone)

@@ -13,7 +13,7 @@ use Rattle.cal_bytes.specs.declared.whole.WholeFault.{WholeFault}
 use Rattle.cal_bytes.specs.declared.whole.WholeFault.TheVariants as whole
 use Rattle.cal_zone.specs.declared.zone.Zone.{Zone as ClockZone}
 use Rattle.cal_zone.specs.declared.zone_fault.ZoneFault.TheVariants.{BadName, BadFile, TooLarge, NoMemory, NameTaken}
-use Rattle.cal_command.specs.rules.Ask.{Ask, LocalZone, in_utc, at_offset, by_rule, of_name, ZoneItem}
+use Rattle.cal_command.specs.rules.Ask.{Ask, ZoneItem}
 use Rattle.cal_command.specs.rules.CommandFault.{CommandFault}
 use Rattle.cal_report.specs.rules.RunReport.{file_report, texts_report}
 use Rattle.cal_report.specs.rules.ReportLines.{Report}
@@ -23,6 +23,7 @@ use Rattle.cal_work.specs.rules.Stop.{Stop, command_stop, load_stop, rule_stop, 
 use Rattle.cal_work.specs.rules.System.{Seen}
 use Rattle.cal_zone.specs.declared.zone_files.LoadFault.{LoadFault}
 use Rattle.cal_zone.specs.declared.zone_files.LoadFault.TheVariants.{ReadFailed, Zone}
+use Rattle.cal_zone.specs.rules.ZoneArgument.{ZoneArgument, in_utc, at_offset, by_rule, of_name}
 use Rattle.cal_request.specs.declared.request.RunFault.{RunFault}
 use Rattle.cal_request.specs.declared.request.RunFault.TheVariants as run
 
@@ -81,7 +82,7 @@ table_by table (item ∷ items) (f ∷ found) =
 -- ## The second step: determining the local zone
 
 -- the local zone, or the stop if the arguments give an invalid rule or an unknown name for it
-unfoldable pub local_by : LocalZone → ZoneMap → ClockZone → Result ClockZone Stop
+unfoldable pub local_by : ZoneArgument → ZoneMap → ClockZone → Result ClockZone Stop
 local_by in_utc table zone = Ok utc
 local_by (at_offset seconds) table zone = Ok zone
 local_by (by_rule rule) table zone = if is_some (rule_read rule) then Ok zone else Err rule_stop

@@ -13,8 +13,9 @@ use Rattle.cal_zone.specs.rules.ZoneTable.{ZoneMap, zone_named}
 use Rattle.cal_civil.specs.rules.ZoneName.{is_utc_name, is_zone_name}
 use Rattle.cal_zone.specs.declared.zone.Zone.{Zone as ClockZone}
 use Rattle.cal_zone.specs.declared.zone_fault.ZoneFault.TheVariants.{BadFile}
+use Rattle.cal_zone.specs.rules.ZoneArgument.{ZoneArgument, in_utc, at_offset, by_rule, of_name}
 use Rattle.cal_timer.specs.rules.TimerEntries.{timer_file_limit}
-use Rattle.cal_command.specs.rules.Ask.{Ask, LocalZone, in_utc, at_offset, by_rule, of_name, ZoneItem}
+use Rattle.cal_command.specs.rules.Ask.{Ask, ZoneItem}
 use Rattle.cal_command.specs.rules.CommandLine.{IsAskOf}
 use Rattle.cal_work.specs.rules.Outcome.{World, ZoneFound, loaded, table_by, local_by, present_by, asked_at, outcome, out_text, err_text, ended_status}
 use Rattle.cal_request.specs.rules.RequestKind.{RequestKind, for_file, for_texts, kind_of}
@@ -50,7 +51,7 @@ SeesZones known table (item ∷ items) (f ∷ found) =
     SeesZone known item f × IfOk (loaded table item f) (λ more. SeesZones known more items found)
 
 -- `zone` is the local zone that the arguments ask for, as `jiff` represents it
-abbrev pub IsLocal : LocalZone → ZoneMap → ClockZone → Type 0
+abbrev pub IsLocal : ZoneArgument → ZoneMap → ClockZone → Type 0
 IsLocal in_utc table zone = zone ≡ utc
 IsLocal (at_offset seconds) table zone =
     (is_utc zone ≡ false) × ((offset : Offset) → offset.seconds ≡ seconds → zone_of zone ≡ fixed_zone offset)

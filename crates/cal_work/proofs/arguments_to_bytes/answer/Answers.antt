@@ -1,5 +1,5 @@
 use Rattle.cal_zone.specs.rules.Zone.{utc}
-use Rattle.cal_command.specs.rules.Ask.{shown_local}
+use Rattle.cal_zone.specs.rules.ZoneArgument.{shown_zone_argument}
 use Rattle.cal_work.specs.rules.Stop.{rule_stop}
 use Rattle.cal_work.proofs.WorkLemmas.{clock_stops, local_refused, local_stops, ran_whole, stops_other, zones_stop}
 use Rattle.cal_work.proofs.arguments_to_bytes.answer.Goals as goal
@@ -17,7 +17,7 @@ returns-in_err-rules-clause-answered g c =
     let zones = rw c.as_slice.ensures.value at c.in_ok-table.ensures in
     let refused = c.in_err-rules.ensures.refused in
     rw (fault.1, fault.2) (local_stops _ _ _ _ _ _ utc zones
-    (rw (local_refused (shown_local c.args.ask.now.local) _ refused.1) (stops_other _ rule_stop refused.0)))
+    (rw (local_refused (shown_zone_argument c.args.ask.now.local) _ refused.1) (stops_other _ rule_stop refused.0)))
 
 pub returns-in_err-local-clause-answered : goal.returns-in_err-local-clause-answered
 returns-in_err-local-clause-answered g c =
