@@ -15,9 +15,7 @@ use crate::shared::{EXCEPT_FILE, SUMMER_TIME, TIMER_FILE, ensure, zone_file};
 use crate::timers::{EXCEPT_EXCEPTIONS, EXCEPT_LINES, UNIT_LINES, expect_lists, expect_timer};
 use cal_base::{Port, Rules, Zone, ZoneTable, place, read_whole};
 use cal_elapse::{Listed, Merge, Pending, Rising};
-use cal_read::{
-    Assignments, NumberedText, OwnedAssignment, find_faults, read_texts,
-};
+use cal_read::{Assignments, NumberedText, OwnedAssignment, find_faults, read_texts};
 use cal_spec::{fault_span, read_expr};
 use std::alloc::{AllocError, Global};
 use std::test::Fail;

@@ -2,7 +2,7 @@ mod ClosedFormLemmas
 mod ClosedPartLemmas
 mod ColumnLemmas
 mod DigitLemmas
-mod DoubtsRows
+mod AmbiguitiesRows
 mod FindingsLemmas
 mod InstanceLemmas
 mod KeyRows

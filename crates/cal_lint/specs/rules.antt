@@ -2,7 +2,7 @@
 pub mod ClosedSteps
 pub mod Columns
 pub mod Crontab
-pub mod Doubts
+pub mod Ambiguities
 pub mod Findings
 pub mod Hints
 pub mod IgnoredValues

@@ -6,9 +6,9 @@ ghost use Rattle.std.specs.Str.Lines.{lines};
 ghost use Rattle.cal_bytes.specs.rules.Trim.{trim_end_matches};
 ghost use Rattle.cal_bytes.specs.rules.Separators.{is_blank};
 ghost use Rattle.cal_timer.specs.rules.Lines.{is_blank_or_return};
-ghost use Rattle.cal_lint.specs.rules.Columns.{doubt_start, fault_start, first_column, last_word_start, physical_line, value_column};
+ghost use Rattle.cal_lint.specs.rules.Columns.{ambiguity_start, fault_start, first_column, last_word_start, physical_line, value_column};
 
-use crate::doubts::Doubt;
+use crate::ambiguities::Ambiguity;
 use cal_bytes::{last_word, trim_blanks_end};
 use cal_spec::fault_span;
 use std::alloc::{AllocError, Global};
@@ -74,15 +74,15 @@ pub(crate) fn fault_start(alloc: Global, value: &str) -> Result<usize, AllocErro
     }
 }
 
-/// Returns the index of the byte of the value at which the abbreviation begins if the doubt is about an abbreviation,
+/// Returns the index of the byte of the value at which the abbreviation begins if the ambiguity is about an abbreviation,
 /// and otherwise 0. The abbreviation is the last word of the value.
-#[tactic(auto, unfolding(crate::specs::rules::Columns::doubt_start))]
-pub(crate) fn doubt_start(doubt: Doubt, value: &str) -> usize
-    ensures start { result ≡ doubt_start doubt value.now }
+#[tactic(auto, unfolding(crate::specs::rules::Columns::ambiguity_start))]
+pub(crate) fn ambiguity_start(ambiguity: Ambiguity, value: &str) -> usize
+    ensures start { result ≡ ambiguity_start ambiguity value.now }
     ensures within { result ≤ length value.now }
 {
-    match doubt {
-        Doubt::Abbreviation => last_word_start(trim_blanks_end(value)),
+    match ambiguity {
+        Ambiguity::Abbreviation => last_word_start(trim_blanks_end(value)),
         _ => 0,
     }
 }

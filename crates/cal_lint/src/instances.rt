@@ -7,8 +7,8 @@ ghost use Rattle.std.specs.Result.{is_ok};
 ghost use Rattle.cal_spec.specs.computed.Expr.{expr_in};
 ghost use Rattle.cal_lint.specs.rules.Instances.{after_letter, around_instance, around_percent, fits, fits_no_instance};
 
-use cal_unit_index::has_percent;
 use cal_spec::{SpecFault, read_expr};
+use cal_unit_index::has_percent;
 use std::alloc::{AllocError, Global};
 
 /// The instances that are tried: an expression that none of them makes valid is probably never valid.

@@ -3,10 +3,10 @@
 #![tactic(auto)]
 
 mod accepted;
+mod ambiguities;
 mod closed_steps;
 mod columns;
 mod crontab;
-mod doubts;
 mod hint_words;
 mod hints;
 mod ignored_values;
@@ -19,8 +19,8 @@ mod sections;
 mod setting_problems;
 mod unknown_keys;
 
+pub use ambiguities::{Ambiguity, find_ambiguity, looks_like_abbreviation};
 pub use closed_steps::closed_form;
-pub use doubts::{Doubt, find_doubt, looks_like_abbreviation};
 pub use hints::{Hint, Mistake, find_hint};
 pub use older_systemd::{Rejection, systemd_252};
 pub use open_steps::{OpenStepFlaw, find_open_step_flaw, open_step_flaw};

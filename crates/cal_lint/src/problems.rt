@@ -13,8 +13,8 @@ ghost use Rattle.cal_lint.specs.rules.Findings.{HasGoodSuggestion, assigned_prob
 ghost use Rattle.cal_lint.specs.rules.InstallNames.{has_bad_name};
 ghost use Rattle.cal_lint.specs.declared.problems.Problem.TheVariants.{BadUnitName};
 
+use crate::ambiguities::Ambiguity;
 use crate::columns::{first_column, physical_line, physical_lines, value_column};
-use crate::doubts::Doubt;
 use crate::hints::Mistake;
 use crate::install_names::has_bad_name;
 use crate::older_systemd::Rejection;
@@ -53,7 +53,7 @@ pub enum Problem {
     /// systemd 252 rejects the expression, which is valid here.
     Rejected(Rejection),
     /// The expression or the exception is valid, but may not mean what its author thinks.
-    Doubtful(Doubt),
+    Ambiguous(Ambiguity),
     /// The line begins with `[`, but isn't a section header: it doesn't end with `]`, or it has a control character, a
     /// quote or a backslash. systemd doesn't read the file any further, and doesn't load the unit unless the file is a
     /// drop-in.
@@ -98,7 +98,7 @@ pub struct Finding {
     /// The number of the line, from 1. A continued line has the number of its first physical line.
     pub line: u32,
     /// The byte of the line, counted from 1, at which the problem begins. For an invalid expression or exception, this
-    /// is the first byte of the word at fault (see [`fault_span`]); for [`Doubt::Abbreviation`], that of the
+    /// is the first byte of the word at fault (see [`fault_span`]); for [`Ambiguity::Abbreviation`], that of the
     /// abbreviation. For all other problems of a value, it is the first byte of the value. If the line is continued and
     /// doesn't contain the whole value, the column is 1. For problems of a key, a header or a whole line, it is the
     /// first byte after the line's leading blanks.
@@ -133,7 +133,7 @@ struct UnitLine<'l> {
 /// - invalid lines, as [`find_faults`] returns them;
 /// - what [`crate::systemd_252`] and [`crate::find_open_step_flaw`] return for valid expressions, except for
 ///   [`OpenStepFlaw::FailsAtMidnightChanges`];
-/// - what [`crate::find_doubt`] returns for valid expressions and exceptions;
+/// - what [`crate::find_ambiguity`] returns for valid expressions and exceptions;
 /// - other settings whose values systemd ignores.
 ///
 /// Monotonic timers, `Unit=` and names in `Install` with a `%` aren't checked, since systemd fills in specifiers first

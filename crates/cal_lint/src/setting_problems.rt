@@ -6,17 +6,17 @@ ghost use Rattle.std.specs.Prelude.{◌≡◌, ◌+◌, ◌<◌, ◌^◌, ◌++�
 ghost use Rattle.std.specs.List.{find};
 ghost use Rattle.std.specs.Option.{option_map, option_to_list};
 ghost use Rattle.cal_timer.specs.rules.TimerView.{shown_assignment};
-ghost use Rattle.cal_lint.specs.rules.Doubts.{doubt_in};
+ghost use Rattle.cal_lint.specs.rules.Ambiguities.{ambiguity_in};
 ghost use Rattle.cal_lint.specs.rules.Systemd252.{IsNotRejected, rejection_in};
 ghost use Rattle.cal_lint.specs.rules.Findings.{HasGoodSuggestion, advice, concerns, fault_on, flaws_of, if_valid, instance_problems, is_checked, is_on, problem_in, rejections_of, reported_flaw, setting_problems, shown_finding, unchecked_problems};
 ghost use Rattle.cal_lint.specs.rules.IgnoredValues.{ignored_setting};
 ghost use Rattle.cal_lint.specs.rules.OpenSteps.{flaw_in};
-ghost use Rattle.cal_lint.specs.declared.problems.Problem.TheVariants.{Doubtful, IgnoredValue, Invalid, OpenStep, Rejected};
+ghost use Rattle.cal_lint.specs.declared.problems.Problem.TheVariants.{Ambiguous, IgnoredValue, Invalid, OpenStep, Rejected};
 
 use crate::accepted::{accepted_form, accepted_text};
+use crate::ambiguities::{Ambiguity, find_ambiguity};
 use crate::closed_steps::closed_form;
-use crate::columns::{doubt_start, fault_start, value_column};
-use crate::doubts::{Doubt, find_doubt};
+use crate::columns::{ambiguity_start, fault_start, value_column};
 use crate::hints::{Hint, Mistake, find_hint};
 use crate::ignored_values::ignored_setting;
 use crate::instances::fits_no_instance;
@@ -24,8 +24,8 @@ use crate::older_systemd::{Rejection, systemd_252};
 use crate::open_steps::{OpenStepFlaw, find_open_step_flaw};
 use crate::problems::{Finding, Problem, ProblemKind, finding_with, plain_finding};
 use cal_read::{Assignment, FileFault, TimerFault};
-use cal_unit_index::has_percent;
 use cal_spec::{SpecFault, read_expr};
+use cal_unit_index::has_percent;
 use std::alloc::{AllocError, Global};
 
 /// Appends the problems of a setting in a section `Timer`. `faults` are all errors of the timer that has this setting,
@@ -138,7 +138,7 @@ fn add_invalid(
 }
 
 /// If the value of `assignment` is a valid expression, appends a problem if systemd 252 rejects the expression, another
-/// if systemd 252 computes it wrongly, and another if its meaning is doubtful. For an exception, only its meaning is
+/// if systemd 252 computes it wrongly, and another if its meaning is ambiguous. For an exception, only its meaning is
 /// considered.
 fn add_advice(
     alloc: Global,
@@ -157,7 +157,7 @@ fn add_advice(
 }
 
 /// If the value of `assignment` is a valid expression, appends a problem if systemd 252 computes the expression
-/// wrongly, and another if its meaning is doubtful. For an exception, only its meaning is considered.
+/// wrongly, and another if its meaning is ambiguous. For an exception, only its meaning is considered.
 fn add_concerns(
     alloc: Global,
     found: &mut Vec<Finding>,
@@ -170,9 +170,9 @@ fn add_concerns(
     ensures suggestions { OnOk result (All HasGoodSuggestion found.old.items → All HasGoodSuggestion found.new.items) }
 {
     let flaw = flaw_by_systemd(alloc, assignment)?;
-    let doubt = doubt_of(alloc, assignment.value)?;
+    let ambiguity = ambiguity_of(alloc, assignment.value)?;
     push_flaw(alloc, found, assignment, line, flaw)?;
-    push_doubt(found, assignment, line, doubt)
+    push_ambiguity(found, assignment, line, ambiguity)
 }
 
 /// Returns what systemd 252 computes wrongly in a valid expression. Failures when the clock is set forward at midnight
@@ -294,22 +294,22 @@ fn closed_suggestion(alloc: Global, value: &str) -> Result<Option<String>, Alloc
     }
 }
 
-/// Appends the problem that the meaning of a valid expression is doubtful, if there is a doubt.
-fn push_doubt(
+/// Appends the problem that the meaning of a valid expression is ambiguous, if there is an ambiguity.
+fn push_ambiguity(
     found: &mut Vec<Finding>,
     assignment: Assignment<'_>,
     line: &str,
-    doubt: Option<Doubt>,
+    ambiguity: Option<Ambiguity>,
 ) -> Result<(), AllocError>
     requires { 1 + length line.now < 2 ^ 32 }
     ensures problems { OnOk result (map shown_finding found.new.items ≡ map shown_finding found.old.items
-        ++ map (problem_in assignment.entry.number line.now assignment.entry.value.now) (option_to_list (option_map Doubtful doubt))) }
+        ++ map (problem_in assignment.entry.number line.now assignment.entry.value.now) (option_to_list (option_map Ambiguous ambiguity))) }
     ensures suggestions { OnOk result (All HasGoodSuggestion found.old.items → All HasGoodSuggestion found.new.items) }
 {
-    if let Some(doubt) = doubt {
+    if let Some(ambiguity) = ambiguity {
         let value = assignment.value;
-        let column = value_column(line, value, doubt_start(doubt, value));
-        found.push(plain_finding(assignment.number, column, Problem::Doubtful(doubt)))?;
+        let column = value_column(line, value, ambiguity_start(ambiguity, value));
+        found.push(plain_finding(assignment.number, column, Problem::Ambiguous(ambiguity)))?;
     }
     Ok(())
 }
@@ -326,13 +326,13 @@ fn rejection_of(alloc: Global, value: &str) -> Result<Option<Rejection>, AllocEr
     }
 }
 
-/// Returns why a valid expression may not mean what its author thinks. Returns `None` if no [`Doubt`] applies to the
+/// Returns why a valid expression may not mean what its author thinks. Returns `None` if no [`Ambiguity`] applies to the
 /// expression, or if `value` is not a valid expression. Fails only if allocation fails.
-fn doubt_of(alloc: Global, value: &str) -> Result<Option<Doubt>, AllocError>
-    ensures { IfOk result (λ found. found ≡ if_valid (doubt_in value.now)) }
+fn ambiguity_of(alloc: Global, value: &str) -> Result<Option<Ambiguity>, AllocError>
+    ensures { IfOk result (λ found. found ≡ if_valid (ambiguity_in value.now)) }
 {
-    match find_doubt(alloc, value) {
-        Ok(doubt) => Ok(doubt),
+    match find_ambiguity(alloc, value) {
+        Ok(ambiguity) => Ok(ambiguity),
         Err(SpecFault::NoMemory) => Err(AllocError),
         Err(_) => Ok(None),
     }

@@ -2,7 +2,7 @@
 //! columns at which it finds no problems.
 
 use cal_library_tests::shared::ensure;
-use cal_lint::{Doubt, Finding, Problem, ProblemKind, find_hint};
+use cal_lint::{Ambiguity, Finding, Problem, ProblemKind, find_hint};
 use cal_timers_report::Style;
 use cal_timers_text::finding_text;
 use std::alloc::Global;
@@ -14,7 +14,7 @@ fn no_hint_for_an_empty_text(rt: HostRuntime) -> Result<(), Fail> {
     ensure(hint.is_none(), "a hint")
 }
 
-/// The line and the column of a doubt, the text of the file, and what is printed.
+/// The line and the column of an ambiguity, the text of the file, and what is printed.
 type Row = (u32, u32, &'static str, &'static str);
 
 static PLACES: [Row; 3] = [
@@ -52,7 +52,7 @@ fn expect(alloc: Global, row: Row) -> Result<(), Fail> {
         line,
         column,
         kind: ProblemKind::Warning,
-        problem: Problem::Doubtful(Doubt::MonthDay),
+        problem: Problem::Ambiguous(Ambiguity::MonthDay),
         mistake: None,
         suggestion: None,
     };

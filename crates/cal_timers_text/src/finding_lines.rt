@@ -266,7 +266,7 @@ fn is_in_value(problem: Problem) -> bool
         Problem::Invalid(_)
             | Problem::NoInstanceFits
             | Problem::Rejected(_)
-            | Problem::Doubtful(_)
+            | Problem::Ambiguous(_)
             | Problem::BadUnitName
             | Problem::IgnoredValue(_)
             | Problem::OpenStep(_)

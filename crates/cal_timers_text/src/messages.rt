@@ -2,9 +2,9 @@
 
 ghost use Rattle.std.specs.Prelude.{◌≡◌, ◌++◌, IfOk, OnOk, codes, string_bytes};
 ghost use Rattle.cal_timers_text.specs.rules.FlawWords.{flaw_words, loss_words};
-ghost use Rattle.cal_timers_text.specs.rules.Messages.{doubt_words, finding_message, idle_message, ignored_setting_message, invalid_message, missing_unit_message, mistake_words, reason_of, rejection_words, section_name, start_of, value_words};
+ghost use Rattle.cal_timers_text.specs.rules.Messages.{ambiguity_words, finding_message, idle_message, ignored_setting_message, invalid_message, missing_unit_message, mistake_words, reason_of, rejection_words, section_name, start_of, value_words};
 
-use cal_lint::{Doubt, Mistake, OpenStepFlaw, Problem, Rejection, Section};
+use cal_lint::{Ambiguity, Mistake, OpenStepFlaw, Problem, Rejection, Section};
 use cal_load::WhyIgnored;
 use cal_spec::Field;
 use cal_tasks::IdleKind;
@@ -45,7 +45,7 @@ pub(crate) fn push_message(
             out.push_str("systemd 252 doesn't accept ")?;
             out.push_str(rejection_words(rejection))
         }
-        Problem::Doubtful(doubt) => out.push_str(doubt_words(doubt)),
+        Problem::Ambiguous(ambiguity) => out.push_str(ambiguity_words(ambiguity)),
         Problem::BadHeader => out.push_str("bad section header, at which systemd stops reading"),
         Problem::UnknownSection => out.push_str("unknown section, which systemd ignores"),
         Problem::OutsideSection => {
@@ -208,15 +208,15 @@ fn rejection_words(rejection: Rejection) -> &'static str
     }
 }
 
-#[tactic(auto, unfolding(crate::specs::rules::Messages::doubt_words))]
-fn doubt_words(doubt: Doubt) -> &'static str
-    ensures { result.now ≡ doubt_words doubt }
+#[tactic(auto, unfolding(crate::specs::rules::Messages::ambiguity_words))]
+fn ambiguity_words(ambiguity: Ambiguity) -> &'static str
+    ensures { result.now ≡ ambiguity_words ambiguity }
 {
-    match doubt {
-        Doubt::HourRange => "this is an hour and a range of minutes, not a range of times",
-        Doubt::HourList => "this is an hour and a list of minutes, not a list of times",
-        Doubt::MonthDay => "this is a month and a day, not a range of weekdays",
-        Doubt::Abbreviation => {
+    match ambiguity {
+        Ambiguity::HourRange => "this is an hour and a range of minutes, not a range of times",
+        Ambiguity::HourList => "this is an hour and a list of minutes, not a list of times",
+        Ambiguity::MonthDay => "this is a month and a day, not a range of weekdays",
+        Ambiguity::Abbreviation => {
             "this is an abbreviation, which systemd may take for winter time or summer time only"
         }
     }

@@ -8,10 +8,10 @@ use Rattle.cal_bytes.specs.rules.Trim.{trim_end_matches}
 use Rattle.cal_spec.specs.computed.Expr.{expr_in}
 use Rattle.cal_timer.specs.rules.Assignments.{assignment_of}
 use Rattle.cal_timer.specs.rules.Lines.{Line, is_blank_or_return}
-use Rattle.cal_lint.specs.declared.doubts.Doubt.{Doubt}
-use Rattle.cal_lint.specs.declared.doubts.Doubt.TheVariants.{HourRange, HourList, MonthDay, Abbreviation}
+use Rattle.cal_lint.specs.declared.ambiguities.Ambiguity.{Ambiguity}
+use Rattle.cal_lint.specs.declared.ambiguities.Ambiguity.TheVariants.{HourRange, HourList, MonthDay, Abbreviation}
 use Rattle.cal_lint.specs.declared.problems.Problem.{Problem}
-use Rattle.cal_lint.specs.declared.problems.Problem.TheVariants.{Invalid, NoInstanceFits, UnknownKey, Rejected, Doubtful, BadHeader, UnknownSection, OutsideSection, NoEquals, NoKey, BadUnitName, IgnoredValue, OpenStep}
+use Rattle.cal_lint.specs.declared.problems.Problem.TheVariants.{Invalid, NoInstanceFits, UnknownKey, Rejected, Ambiguous, BadHeader, UnknownSection, OutsideSection, NoEquals, NoKey, BadUnitName, IgnoredValue, OpenStep}
 
 -- the physical line with this number, counted from 1, or an empty text if there are fewer lines
 abbrev pub physical_line : List (List ℕ) → ℕ → List ℕ
@@ -58,13 +58,13 @@ fault_start text =
 abbrev pub last_word_start : List ℕ → ℕ
 last_word_start text = length text - length (after_last is_blank text)
 
--- the first byte of the abbreviation, counted from 0, if the doubt is about one, and otherwise 0: the abbreviation is
+-- the first byte of the abbreviation, counted from 0, if the ambiguity is about one, and otherwise 0: the abbreviation is
 -- the last word of the value
-unfoldable pub doubt_start : Doubt → List ℕ → ℕ
-doubt_start HourRange value = 0
-doubt_start HourList value = 0
-doubt_start MonthDay value = 0
-doubt_start Abbreviation value = last_word_start (trim_end_matches is_blank value)
+unfoldable pub ambiguity_start : Ambiguity → List ℕ → ℕ
+ambiguity_start HourRange value = 0
+ambiguity_start HourList value = 0
+ambiguity_start MonthDay value = 0
+ambiguity_start Abbreviation value = last_word_start (trim_end_matches is_blank value)
 
 -- the column at which a problem begins, given the physical line and the value in it: at the word at fault, at the
 -- abbreviation, or at the value; problems of a key, a header or a whole line begin after the leading blanks
@@ -73,7 +73,7 @@ column_of line value (Invalid fault) = value_column line value (fault_start valu
 column_of line value NoInstanceFits = value_column line value 0
 column_of line value (UnknownKey section) = first_column line
 column_of line value (Rejected rejection) = value_column line value 0
-column_of line value (Doubtful doubt) = value_column line value (doubt_start doubt value)
+column_of line value (Ambiguous ambiguity) = value_column line value (ambiguity_start ambiguity value)
 column_of line value BadHeader = first_column line
 column_of line value UnknownSection = first_column line
 column_of line value OutsideSection = first_column line

@@ -17,7 +17,7 @@ use Rattle.cal_read.specs.rules.SectionAssignments.{section_assignments}
 use Rattle.cal_read.specs.rules.TimerFaults.{all_faults, in_file}
 use Rattle.cal_read.specs.declared.texts.FileFault.{FileFault}
 use Rattle.cal_lint.specs.rules.Columns.{column_of, physical_line, value_in}
-use Rattle.cal_lint.specs.rules.Doubts.{doubt_in}
+use Rattle.cal_lint.specs.rules.Ambiguities.{ambiguity_in}
 use Rattle.cal_lint.specs.rules.IgnoredValues.{ignored_setting}
 use Rattle.cal_lint.specs.rules.InstallNames.{has_bad_name}
 use Rattle.cal_lint.specs.rules.Instances.{fits_no_instance}
@@ -32,7 +32,7 @@ use Rattle.cal_lint.specs.declared.problems.ProblemKind.{ProblemKind}
 use Rattle.cal_lint.specs.declared.problems.UnitLine.{UnitLine}
 use Rattle.cal_lint.specs.declared.problems.ProblemKind.TheVariants.{Error, Warning}
 use Rattle.cal_lint.specs.declared.problems.Problem.{Problem}
-use Rattle.cal_lint.specs.declared.problems.Problem.TheVariants.{Invalid, NoInstanceFits, UnknownKey, Rejected, Doubtful, BadHeader, UnknownSection, OutsideSection, NoEquals, NoKey, BadUnitName, IgnoredValue, OpenStep}
+use Rattle.cal_lint.specs.declared.problems.Problem.TheVariants.{Invalid, NoInstanceFits, UnknownKey, Rejected, Ambiguous, BadHeader, UnknownSection, OutsideSection, NoEquals, NoKey, BadUnitName, IgnoredValue, OpenStep}
 use Rattle.cal_lint.specs.declared.sections.OpenSection.{OpenSection}
 use Rattle.cal_lint.specs.declared.sections.OpenSection.TheVariants.{Outside, Known, Ignored}
 use Rattle.cal_lint.specs.declared.sections.Section.{Section}
@@ -80,7 +80,7 @@ flaws_of a = if is_exception a then [] else option_to_list (option_map OpenStep 
 -- what systemd 252 computes wrongly in a valid expression, and why the expression or exception may not mean what its
 -- author thinks
 abbrev pub concerns : Assignment → List Problem
-concerns a = flaws_of a ++ option_to_list (option_map Doubtful (if_valid (doubt_in a.value)))
+concerns a = flaws_of a ++ option_to_list (option_map Ambiguous (if_valid (ambiguity_in a.value)))
 
 -- the problems of a valid expression or exception: why systemd 252 rejects the expression, and what may be wrong with
 -- its meaning; none if the value is not a valid expression
@@ -155,7 +155,7 @@ problem_kind_of (Invalid fault) = Error
 problem_kind_of NoInstanceFits = Error
 problem_kind_of (UnknownKey section) = Warning
 problem_kind_of (Rejected rejection) = Error
-problem_kind_of (Doubtful doubt) = Warning
+problem_kind_of (Ambiguous ambiguity) = Warning
 problem_kind_of BadHeader = Error
 problem_kind_of UnknownSection = Warning
 problem_kind_of OutsideSection = Warning

@@ -9,7 +9,7 @@ use Rattle.cal_bytes.specs.rules.Separators.{is_blank, is_equals, words}
 use Rattle.cal_bytes.specs.rules.Trim.{trim_end_matches}
 use Rattle.cal_lint.specs.declared.problems.Finding.{Finding}
 use Rattle.cal_lint.specs.declared.problems.Problem.{Problem}
-use Rattle.cal_lint.specs.declared.problems.Problem.TheVariants.{Invalid, NoInstanceFits, UnknownKey, Rejected, Doubtful, BadHeader, UnknownSection, OutsideSection, NoEquals, NoKey, BadUnitName, IgnoredValue, OpenStep}
+use Rattle.cal_lint.specs.declared.problems.Problem.TheVariants.{Invalid, NoInstanceFits, UnknownKey, Rejected, Ambiguous, BadHeader, UnknownSection, OutsideSection, NoEquals, NoKey, BadUnitName, IgnoredValue, OpenStep}
 use Rattle.cal_lint.specs.declared.problems.ProblemKind.{ProblemKind}
 use Rattle.cal_lint.specs.declared.problems.ProblemKind.TheVariants as kinds
 use Rattle.cal_timer.specs.rules.TimerText.{without_mark}
@@ -70,7 +70,7 @@ is_in_value (Invalid fault) = true
 is_in_value NoInstanceFits = true
 is_in_value (UnknownKey section) = false
 is_in_value (Rejected rejection) = true
-is_in_value (Doubtful doubt) = true
+is_in_value (Ambiguous ambiguity) = true
 is_in_value BadHeader = false
 is_in_value UnknownSection = false
 is_in_value OutsideSection = false

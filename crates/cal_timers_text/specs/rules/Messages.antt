@@ -1,18 +1,18 @@
 -- The messages about the settings and the files of a timer, in this project's own words. Most of them describe what
 -- systemd 252 does (systemd.syntax(7), systemd.timer(5)).
 use Rattle.std.specs.Prelude.{ℕ, List, [], ◌++◌, codes, Option, None, Some, if◌then◌else◌}
-use Rattle.cal_lint.specs.declared.doubts.Doubt.{Doubt}
-use Rattle.cal_lint.specs.declared.doubts.Doubt.TheVariants.{HourRange, HourList, MonthDay, Abbreviation}
+use Rattle.cal_lint.specs.declared.ambiguities.Ambiguity.{Ambiguity}
+use Rattle.cal_lint.specs.declared.ambiguities.Ambiguity.TheVariants.{HourRange, HourList, MonthDay, Abbreviation}
 use Rattle.cal_lint.specs.declared.hints.Mistake.{Mistake}
 use Rattle.cal_lint.specs.declared.open_steps.OpenStepFlaw.TheVariants.{FailsAtMidnightChanges}
 use Rattle.cal_lint.specs.declared.hints.Mistake.TheVariants.{Assignment, Comment, Now, Span, Crontab, TwelveHours, Point, BareHour, ShortOffset, YearMonth, Weekday, Shorthand}
 use Rattle.cal_lint.specs.declared.older_systemd.Rejection.{Rejection}
 use Rattle.cal_lint.specs.declared.older_systemd.Rejection.TheVariants.{Tab, Blanks, PastSunday, OneSecond, SecondStep, DaysFromEnd, Offset, ZoneName}
 use Rattle.cal_lint.specs.declared.problems.Problem.{Problem}
-use Rattle.cal_lint.specs.declared.problems.Problem.TheVariants.{Invalid, NoInstanceFits, UnknownKey, Rejected, Doubtful, BadHeader, UnknownSection, OutsideSection, NoEquals, NoKey, BadUnitName, IgnoredValue, OpenStep}
+use Rattle.cal_lint.specs.declared.problems.Problem.TheVariants.{Invalid, NoInstanceFits, UnknownKey, Rejected, Ambiguous, BadHeader, UnknownSection, OutsideSection, NoEquals, NoKey, BadUnitName, IgnoredValue, OpenStep}
 use Rattle.cal_lint.specs.declared.sections.Section.{Section}
 use Rattle.cal_lint.specs.declared.sections.Section.TheVariants.{Unit, Timer, Install}
-use Rattle.cal_lint.specs.rules.Doubts.{looks_like_abbreviation}
+use Rattle.cal_lint.specs.rules.Ambiguities.{looks_like_abbreviation}
 use Rattle.cal_load.specs.declared.ignored.WhyIgnored.{WhyIgnored}
 use Rattle.cal_load.specs.declared.ignored.WhyIgnored.TheVariants.{BadValue, OwnName, SecondUnit}
 use Rattle.cal_load.specs.declared.readable.BrokenReason.{BrokenReason}
@@ -61,11 +61,11 @@ rejection_words Offset = codes "a UTC offset as the zone"
 rejection_words ZoneName = codes "a zone whose name ends in / or contains //"
 
 -- how a valid expression may be misunderstood
-unfoldable pub doubt_words : Doubt → List ℕ
-doubt_words HourRange = codes "this is an hour and a range of minutes, not a range of times"
-doubt_words HourList = codes "this is an hour and a list of minutes, not a list of times"
-doubt_words MonthDay = codes "this is a month and a day, not a range of weekdays"
-doubt_words Abbreviation = codes "this is an abbreviation, which systemd may take for winter time or summer time only"
+unfoldable pub ambiguity_words : Ambiguity → List ℕ
+ambiguity_words HourRange = codes "this is an hour and a range of minutes, not a range of times"
+ambiguity_words HourList = codes "this is an hour and a list of minutes, not a list of times"
+ambiguity_words MonthDay = codes "this is a month and a day, not a range of weekdays"
+ambiguity_words Abbreviation = codes "this is an abbreviation, which systemd may take for winter time or summer time only"
 
 -- what is wrong with a value that systemd doesn't accept for a setting of this kind
 unfoldable pub value_words : KeyKind → List ℕ
@@ -111,7 +111,7 @@ finding_message (Invalid fault) mistake = start_of fault ++ reason_of fault mist
 finding_message NoInstanceFits mistake = codes "invalid expression: not valid for any usual instance"
 finding_message (UnknownKey section) mistake = codes "unknown key in section [" ++ (section_name section ++ codes "]")
 finding_message (Rejected rejection) mistake = codes "systemd 252 doesn't accept " ++ rejection_words rejection
-finding_message (Doubtful doubt) mistake = doubt_words doubt
+finding_message (Ambiguous ambiguity) mistake = ambiguity_words ambiguity
 finding_message BadHeader mistake = codes "bad section header, at which systemd stops reading"
 finding_message UnknownSection mistake = codes "unknown section, which systemd ignores"
 finding_message OutsideSection mistake = codes "a line before the first section, which systemd ignores"

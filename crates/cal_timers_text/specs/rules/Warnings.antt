@@ -4,7 +4,7 @@ use Rattle.std.specs.Prelude.{ℕ, ℤ, List, [], ◌∷◌, ◌++◌, Option, N
 use Rattle.std.specs.List.{flat_map}
 use Rattle.cal_lint.specs.declared.open_steps.OpenStepFlaw.{OpenStepFlaw}
 use Rattle.cal_lint.specs.declared.open_steps.OpenStepFlaw.TheVariants.{FailsAtMidnightChanges}
-use Rattle.cal_lint.specs.rules.Doubts.{looks_like_abbreviation}
+use Rattle.cal_lint.specs.rules.Ambiguities.{looks_like_abbreviation}
 use Rattle.cal_lint.specs.rules.Findings.{reported_flaw}
 use Rattle.cal_lint.specs.rules.OpenSteps.{flaw_of}
 use Rattle.cal_spec.specs.rules.Fields.{Fields}

@@ -4,7 +4,7 @@ use Rattle.cal_bytes.specs.rules.Separators.{words}
 use Rattle.cal_civil.specs.rules.ZoneName.{is_utc_name}
 use Rattle.cal_spec.specs.declared.field.Part.{Part}
 use Rattle.cal_spec.specs.rules.NormalForm.{point}
-use Rattle.cal_lint.specs.rules.Doubts.{has_month_day, is_hour_list, is_hour_range, looks_like_abbreviation}
+use Rattle.cal_lint.specs.rules.Ambiguities.{has_month_day, is_hour_list, is_hour_range, looks_like_abbreviation}
 
 abbrev to : ℕ → Option ℕ → List Part
 to end step = record { start = 0; end = Some end; step = step } ∷ []

@@ -7,7 +7,7 @@ ghost use Rattle.std.specs.Option.{option_copied};
 ghost use Rattle.cal_spec.specs.computed.Reads.{GivesUnlessNoMemory};
 ghost use Rattle.cal_bytes.specs.rules.Separators.{words};
 ghost use Rattle.cal_spec.specs.rules.ZoneSuffix.{name_in};
-ghost use Rattle.cal_lint.specs.rules.Doubts.{doubt_in, has_abbreviation, has_hours, has_month_day, is_doubtful, is_hour_list, is_hour_range, is_later_hour, is_month_day, is_range_to, looks_like_abbreviation, part_number, single};
+ghost use Rattle.cal_lint.specs.rules.Ambiguities.{ambiguity_in, has_abbreviation, has_hours, has_month_day, is_ambiguous, is_hour_list, is_hour_range, is_later_hour, is_month_day, is_range_to, looks_like_abbreviation, part_number, single};
 
 use cal_bytes::first_word;
 use cal_civil::is_utc_name;
@@ -16,7 +16,7 @@ use std::alloc::Global;
 
 /// Why a valid expression may not mean what its author thinks.
 #[derive(Clone, Copy, PartialEq, Eq, Debug)]
-pub enum Doubt {
+pub enum Ambiguity {
     /// The hour and the second are single numbers, and the minutes are a range, without a step, from 0 to a number that
     /// could be a later hour. `10:00..12:00` stands for the minutes 0 to 12 of the hour 10, and not for the time from
     /// 10:00 to 12:00.
@@ -33,51 +33,51 @@ pub enum Doubt {
     Abbreviation,
 }
 
-impl Doubt {
-    const ALL: [Doubt; 4] = [
-        Doubt::HourRange,
-        Doubt::HourList,
-        Doubt::MonthDay,
-        Doubt::Abbreviation,
+impl Ambiguity {
+    const ALL: [Ambiguity; 4] = [
+        Ambiguity::HourRange,
+        Ambiguity::HourList,
+        Ambiguity::MonthDay,
+        Ambiguity::Abbreviation,
     ];
 }
 
 /// Returns why a valid calendar expression may not mean what its author thinks (systemd.time(7), Calendar Events), or
-/// `None` if no [`Doubt`] applies to it. If several apply, returns the first in the order of [`Doubt`].
+/// `None` if no [`Ambiguity`] applies to it. If several apply, returns the first in the order of [`Ambiguity`].
 ///
 /// Fails with the error of [`read_expr`] if `text` is not a valid expression. Fails with [`SpecFault::NoMemory`] only
 /// if allocation fails.
-#[tactic(auto, unfolding(crate::specs::rules::Doubts::doubt_in))]
-pub fn find_doubt(alloc: Global, text: &str) -> Result<Option<Doubt>, SpecFault>
-    ensures { GivesUnlessNoMemory (λ doubt. doubt) result (doubt_in text.now) }
+#[tactic(auto, unfolding(crate::specs::rules::Ambiguities::ambiguity_in))]
+pub fn find_ambiguity(alloc: Global, text: &str) -> Result<Option<Ambiguity>, SpecFault>
+    ensures { GivesUnlessNoMemory (λ ambiguity. ambiguity) result (ambiguity_in text.now) }
 {
     let expr = read_expr(alloc, text)?;
-    Ok(first_among(&Doubt::ALL, text, &expr))
+    Ok(first_among(&Ambiguity::ALL, text, &expr))
 }
 
-fn first_among(doubts: &[Doubt], text: &str, expr: &Expr) -> Option<Doubt>
-    ensures { result ≡ find (λ doubt. is_doubtful text.now expr.now doubt) doubts.now }
+fn first_among(ambiguities: &[Ambiguity], text: &str, expr: &Expr) -> Option<Ambiguity>
+    ensures { result ≡ find (λ ambiguity. is_ambiguous text.now expr.now ambiguity) ambiguities.now }
 {
-    doubts
+    ambiguities
         .iter()
         .copied()
-        .find(|doubt| is_doubtful(text, expr, *doubt))
+        .find(|ambiguity| is_ambiguous(text, expr, *ambiguity))
 }
 
-fn is_doubtful(text: &str, expr: &Expr, doubt: Doubt) -> bool
-    ensures { result ≡ is_doubtful text.now expr.now doubt }
+fn is_ambiguous(text: &str, expr: &Expr, ambiguity: Ambiguity) -> bool
+    ensures { result ≡ is_ambiguous text.now expr.now ambiguity }
 {
-    match doubt {
-        Doubt::HourRange | Doubt::HourList => has_hours(doubt, expr),
-        Doubt::MonthDay => has_month_day(text),
-        Doubt::Abbreviation => has_abbreviation(expr),
+    match ambiguity {
+        Ambiguity::HourRange | Ambiguity::HourList => has_hours(ambiguity, expr),
+        Ambiguity::MonthDay => has_month_day(text),
+        Ambiguity::Abbreviation => has_abbreviation(expr),
     }
 }
 
 /// Returns whether the hour and the second are one number each, and the minutes look like a range of hours
-/// ([`Doubt::HourRange`]) or a list of hours ([`Doubt::HourList`]).
-fn has_hours(doubt: Doubt, expr: &Expr) -> bool
-    ensures { result ≡ has_hours doubt expr.now }
+/// ([`Ambiguity::HourRange`]) or a list of hours ([`Ambiguity::HourList`]).
+fn has_hours(ambiguity: Ambiguity, expr: &Expr) -> bool
+    ensures { result ≡ has_hours ambiguity expr.now }
 {
     let (Some(hour), Some(_), Some(minutes)) = (
         single(expr.field(Field::Hour)),
@@ -86,11 +86,11 @@ fn has_hours(doubt: Doubt, expr: &Expr) -> bool
     ) else {
         return false;
     };
-    match doubt {
-        Doubt::HourRange => is_hour_range(hour, minutes),
-        Doubt::HourList => is_hour_list(hour, minutes),
-        Doubt::MonthDay => false,
-        Doubt::Abbreviation => false,
+    match ambiguity {
+        Ambiguity::HourRange => is_hour_range(hour, minutes),
+        Ambiguity::HourList => is_hour_list(hour, minutes),
+        Ambiguity::MonthDay => false,
+        Ambiguity::Abbreviation => false,
     }
 }
 

@@ -1,6 +1,6 @@
 use Rattle.std.proofs.Common.{ap, arith, length}
 use Rattle.cal_lint.proofs.ColumnLemmas.{trimmed_length}
-use Rattle.cal_lint.proofs.columns.doubt_start.Goals as goal
+use Rattle.cal_lint.proofs.columns.ambiguity_start.Goals as goal
 
 pub returns-in-Abbreviation-clause-within : goal.returns-in-Abbreviation-clause-within
 returns-in-Abbreviation-clause-within c =

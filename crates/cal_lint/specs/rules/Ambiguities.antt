@@ -10,8 +10,8 @@ use Rattle.cal_spec.specs.rules.Fields.{Fields}
 use Rattle.cal_spec.specs.rules.ZoneSuffix.{name_in}
 use Rattle.cal_spec.specs.declared.field.Part.{Part}
 use Rattle.cal_spec.specs.declared.spec_fault.SpecFault.{SpecFault}
-use Rattle.cal_lint.specs.declared.doubts.Doubt.{Doubt}
-use Rattle.cal_lint.specs.declared.doubts.Doubt.TheVariants.{HourRange, HourList, MonthDay, Abbreviation}
+use Rattle.cal_lint.specs.declared.ambiguities.Ambiguity.{Ambiguity}
+use Rattle.cal_lint.specs.declared.ambiguities.Ambiguity.TheVariants.{HourRange, HourList, MonthDay, Abbreviation}
 
 -- the number of a part that is a single number, or None for any other part
 abbrev pub part_number : ℕ → Option ℕ → Option ℕ → Option ℕ
@@ -54,21 +54,21 @@ is_hour_list hour (p ∷ []) = false
 is_hour_list hour (p ∷ q ∷ []) = are_zero_and_later hour (part_number p.start p.end p.step) (part_number q.start q.end q.step)
 is_hour_list hour (p ∷ q ∷ r ∷ ps) = false
 
--- whether these minutes, written after this hour, look like a range of hours, for the doubt `HourRange`, or like a list
+-- whether these minutes, written after this hour, look like a range of hours, for the ambiguity `HourRange`, or like a list
 -- of hours, for `HourList`
-abbrev pub are_hours : Doubt → ℕ → List Part → Bool
+abbrev pub are_hours : Ambiguity → ℕ → List Part → Bool
 are_hours HourRange hour minutes = is_hour_range hour minutes
 are_hours HourList hour minutes = is_hour_list hour minutes
 are_hours MonthDay hour minutes = false
 are_hours Abbreviation hour minutes = false
 
 -- whether the hour and the second are single numbers, and `are_hours` says that the minutes look like hours
-abbrev pub has_hours_by : Doubt → Option ℕ → Option ℕ → Option (List Part) → Bool
-has_hours_by doubt (Some hour) (Some second) (Some minutes) = are_hours doubt hour minutes
-has_hours_by doubt hour second minutes = false
+abbrev pub has_hours_by : Ambiguity → Option ℕ → Option ℕ → Option (List Part) → Bool
+has_hours_by ambiguity (Some hour) (Some second) (Some minutes) = are_hours ambiguity hour minutes
+has_hours_by ambiguity hour second minutes = false
 
-abbrev pub has_hours : Doubt → Fields → Bool
-has_hours doubt f = has_hours_by doubt (single f.hour) (single f.second) f.minute
+abbrev pub has_hours : Ambiguity → Fields → Bool
+has_hours ambiguity f = has_hours_by ambiguity (single f.hour) (single f.second) f.minute
 
 -- whether the word is a digit from 1 to 7, `-`, and a greater digit up to 7; such a month and day could be meant as a
 -- range of weekdays, with 1 for Monday
@@ -92,15 +92,15 @@ abbrev pub has_abbreviation : Option (List ℕ) → Bool
 has_abbreviation None = false
 has_abbreviation (Some name) = looks_like_abbreviation name
 
--- whether this doubt applies to the expression `text`, whose normal form has the fields `f`
-abbrev pub is_doubtful : List ℕ → Fields → Doubt → Bool
-is_doubtful text f MonthDay = has_month_day (words text)
-is_doubtful text f Abbreviation = has_abbreviation (name_in f.zone)
-is_doubtful text f doubt = has_hours doubt f
+-- whether this ambiguity applies to the expression `text`, whose normal form has the fields `f`
+abbrev pub is_ambiguous : List ℕ → Fields → Ambiguity → Bool
+is_ambiguous text f MonthDay = has_month_day (words text)
+is_ambiguous text f Abbreviation = has_abbreviation (name_in f.zone)
+is_ambiguous text f ambiguity = has_hours ambiguity f
 
-abbrev pub doubts : List Doubt
-doubts = HourRange ∷ HourList ∷ MonthDay ∷ Abbreviation ∷ []
+abbrev pub ambiguities : List Ambiguity
+ambiguities = HourRange ∷ HourList ∷ MonthDay ∷ Abbreviation ∷ []
 
--- the first doubt that applies to a valid expression, or None if no doubt does; for an invalid expression, the error
-unfoldable pub doubt_in : List ℕ → Result (Option Doubt) SpecFault
-doubt_in text = expr_in text >>= λ f. Ok (find (is_doubtful text f) doubts)
+-- the first ambiguity that applies to a valid expression, or None if no ambiguity does; for an invalid expression, the error
+unfoldable pub ambiguity_in : List ℕ → Result (Option Ambiguity) SpecFault
+ambiguity_in text = expr_in text >>= λ f. Ok (find (is_ambiguous text f) ambiguities)
