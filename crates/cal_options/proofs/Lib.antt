@@ -1,0 +1,4 @@
+pub mod CommandLemmas
+pub mod FaultLemmas
+pub mod NumberLemmas
+pub mod ValueLemmas
