@@ -31,7 +31,7 @@ FORMATTERS = [
 # What a terminal doesn't show: a character that the next one is printed over, and colours.
 UNSEEN = re.compile("(?:.\b|\x1b\\[[0-9;]*m)")
 # The sources of the help texts.
-HELP_TEXTS = {"clap_command.rt", "value_option.rt", "verb_help.rt"}
+HELP_TEXTS = {"arguments.rt", "clap_command.rt", "verb_help.rt"}
 # Messages that the program never prints: names of zones are checked with the command line, a bad rule is reported as one
 # of --local, and `clap` never accepts arguments without a verb and a text.
 NEVER_PRINTED = {"bad zone name", "bad rule", "calendar-analyze: no verb or no text"}

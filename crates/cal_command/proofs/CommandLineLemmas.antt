@@ -1,54 +1,26 @@
 -- Lemmas about the command that is described to `clap`, and about which results of parsing the arguments are right.
-use Rattle.std.proofs.Common.{arith, ◌≡◌, ◌==◌, ◌+◌, ◌<◌, ℕ, List, [], ◌∷◌, add-one, append-nil, append_assoc, drop, drop-cons, get_or, length, map, None, Some, Bool, true, false, refl, sym, ap, ◌∙◌, inl, inr, ◌⊎◌, Result, Ok, Err}
-use Rattle.std.specs.Prelude.{not}
+use Rattle.std.proofs.Common.{arith, ◌≡◌, ◌==◌, ◌<◌, List, [], ◌∷◌, length, None, Some, true, false, refl, sym, ap, ◌∙◌, inl, inr, ◌⊎◌, Result, Ok, Err}
 use Rattle.std.proofs.lemmas.Bool.Decides.{nat_tests}
-use Rattle.std.specs.List.{list_any}
-use Rattle.clap.specs.Words.{App, IsAmong, Kinds, Rule, Text, is_simple, is_simple_and_free, with_rule}
-use Rattle.clap.specs.declared.error.kind.ErrorKind.{ErrorKind}
-use Rattle.clap.specs.declared.error.kind.ErrorKind.TheVariants.{OutOfMemory}
+use Rattle.clap.specs.Words.{Text, is_simple_and_free}
 use Rattle.clap.proofs.OnLiterals.{clap_on_literals}
 use Rattle.std.specs.Borrow.{Bor}
 use Rattle.cal_command.specs.rules.Ask.{Ask, texts_of}
-use Rattle.cal_command.specs.rules.CommandFault.{CommandFault, usage, help, bad_value, no_memory, nothing_asked}
-use Rattle.cal_command.specs.rules.CommandLine.{parsed_in, read_options, IsAskOf, IsFaultOf, IsOrNoMemory, IsReportedOf, HasRefused, ask_in, command_app, unless_empty, faults_in, is_of_help, takes_arguments, with_rules}
+use Rattle.cal_command.specs.rules.CommandFault.{CommandFault, usage, help, bad_value, no_memory, nothing_asked, reported}
+use Rattle.cal_options.specs.rules.ArgumentFault as refusals
+use Rattle.cal_options.specs.rules.ArgumentFault.{Fault, IsRefusalOf}
+use Rattle.cal_command.specs.rules.CommandLine.{parsed_in, read_options, IsAskOf, IsFaultOf, IsOrNoMemory, ask_in, command_app, unless_empty, faults_in, takes_arguments}
 use Rattle.cal_command.specs.rules.VerbMatches.{VerbMatches}
-
--- adding one option or positional argument to the command and then `rules` is the same as adding all of them at once
-pub with_rule-rules : (app : App) (rule : Rule) (rules : List Rule) → with_rules (with_rule app rule) rules ≡ with_rules app (rule ∷ rules)
-with_rule-rules app rule rules = ap (λ rules. record app { top = record app.top { rules = rules } }) (append_assoc app.top.rules (rule ∷ []) rules)
-
-pub with_rules-none : (app : App) → with_rules app [] ≡ app
-with_rules-none app = ap (λ rules. record app { top = record app.top { rules = rules } }) (append-nil app.top.rules)
-
--- the mapped list from index `i` on is item `i` mapped, followed by the mapped list from index `i + 1` on
-pub next_mapped : {A B : Type 0} (f : A → B) (xs : List A) (i : ℕ) (d : A) → i < length xs → f (get_or xs i d) ∷ map f (drop (i + 1) xs) ≡ map f (drop i xs)
-next_mapped f xs i d h = rw (add-one, drop-cons xs i d h) refl
 
 pub is_free_command : is_simple_and_free command_app ≡ true
 unfolding clap_on_literals
 is_free_command = refl
 
-pub is_simple_command : is_simple command_app ≡ true
-unfolding clap_on_literals
-is_simple_command = refl
-
-among : (p : ErrorKind → Bool) (kind : ErrorKind) (kinds : Kinds) → IsAmong kind kinds → p kind ≡ true → list_any p kinds ≡ true
-among p kind [] at holds = absurd at
-among p kind (k ∷ ks) (inl same) holds = grind (arith, ap p same)
-among p kind (k ∷ ks) (inr later) holds = grind (arith, among p kind ks later holds)
-
--- Suppose that `clap` returned an error of the kind `kind`. If the kind isn't `OutOfMemory`, suppose also that `clap`
--- doesn't accept the arguments, and that `kind` is one of the kinds that `clap` may report for the arguments. Then
--- every `fault` that may be reported for this kind (`IsReportedOf`) is right for the arguments, as `IsFaultOf` defines
--- it.
-pub reported_fault : (arguments : List Text) (kind : ErrorKind) (fault : CommandFault) → (takes_arguments arguments ≡ true → kind ≡ OutOfMemory)
-    → (kind ≡ OutOfMemory) ⊎ IsAmong kind (faults_in arguments) → IsReportedOf kind fault → IsFaultOf arguments fault
-reported_fault arguments kind (usage text) passes kinds reported =
-    let refused : HasRefused arguments (λ k. not (is_of_help k)) = grind (arith, among (λ k. not (is_of_help k)) kind (faults_in arguments)) in
-    inl refused
-reported_fault arguments kind (help text) passes kinds reported = grind (arith, among is_of_help kind (faults_in arguments))
-reported_fault arguments kind no_memory passes kinds reported = tt
-reported_fault arguments kind (bad_value message) passes kinds reported = absurd reported
+-- an error that may be reported for the arguments (`IsRefusalOf`) is right for them, as `IsFaultOf` defines it
+pub refused_fault : (arguments : List Text) (fault : Fault) → IsRefusalOf command_app arguments fault → IsFaultOf arguments (reported fault)
+unfolding faults_in takes_arguments
+refused_fault arguments (refusals.usage text) is = inl is.0
+refused_fault arguments (refusals.help text) is = is.0
+refused_fault arguments refusals.no_memory is = tt
 
 -- if there is at least one text, `unless_empty` returns `answer`
 asked : (texts : List Text) (answer : Result Ask CommandFault) → 0 < length texts → unless_empty texts answer ≡ answer

@@ -1,19 +1,14 @@
--- Lemmas about the parsing of option values: numbers, the present, and the items of `--zones`.
-use Rattle.std.proofs.Common.{◌≡◌, ◌≢◌, ℕ, ◌<◌, ◌≤◌, ◌^◌, List, [], ◌∷◌, length, Option, None, Some, Result, Ok, Err, true, false, cond, nat_le, ◌==◌, ◌&&◌, get_or, refl, ap, ap₂, sym, ◌∙◌, ◌+◌, lit<, Bor, ◌++◌, map, append-nil, append_assoc, arith, option_map, pos, ℤ, IsSome, IfSome, ◌↔◌, Bool}
+-- Lemmas about the parsing of the items of `--zones`.
+use Rattle.std.proofs.Common.{◌≡◌, ◌≢◌, ℕ, ◌<◌, ◌≤◌, List, [], ◌∷◌, length, Option, None, Some, true, false, ◌==◌, refl, ap, ap₂, sym, ◌∙◌, ◌+◌, lit<, Bor, ◌++◌, map, append-nil, append_assoc, arith, option_map, Bool}
 use Rattle.std.specs.Prelude.{not}
 use Rattle.std.specs.List.{slice_split, list_any, position_or_len}
-use Rattle.std.specs.Str.{all_ascii_digits}
 use Rattle.std.proofs.lemmas.List.Splits.{slice_split_first, slice_split_none}
 use Rattle.std.proofs.lemmas.List.Sums.{prefix_len_passes}
 use Rattle.std.proofs.lemmas.Str.Pattern.{IsSplitOnceResult, split_once_first}
-use Rattle.std.specs.Str.Parse.{digits_value, ParsesUnsigned}
 use Rattle.std.proofs.lemmas.Bool.{not-true, le-leb}
 use Rattle.std.proofs.lemmas.Bool.Decides.{nat_tests}
-use Rattle.std.proofs.lemmas.Str.Parse.{IsNumeralModel, numerals_by_value, tells_all_ascii_digits, parse_plain}
-use Rattle.cal_zone.specs.rules.Instant.{IsInstant}
-use Rattle.cal_zone.specs.declared.instant.Instant.{Instant}
 use Rattle.cal_bytes.specs.rules.Separators.{is_comma}
-use Rattle.cal_command.specs.rules.OptionValues.{number_between, present_in, parts_at, zone_item_in, zone_items_in, zones_in}
+use Rattle.cal_command.specs.rules.OptionValues.{parts_at, zone_item_in, zone_items_in, zones_in}
 use Rattle.cal_command.specs.rules.Ask.{ZoneItem, shown_item}
 use Rattle.cal_command.specs.declared.ask.ZoneItem as declared_item
 use Rattle.std.proofs.lemmas.List.{map-append}
@@ -25,50 +20,6 @@ any_below p (x ∷ xs) within = grind (arith, any_below p xs)
 none_above : (p : ℕ → Bool) (xs : List ℕ) → length xs ≤ position_or_len p xs → list_any p xs ≡ false
 none_above p [] past = refl
 none_above p (x ∷ xs) past = grind (arith, none_above p xs)
-
-own : IsNumeralModel (λ ds. all_ascii_digits ds ≡ true) (digits_value 10)
-own = numerals_by_value _ tells_all_ascii_digits
-
-no_plus : (text : List ℕ) → get_or text 0 0 ≡ 43 → all_ascii_digits text ≡ false
-no_plus [] at = absurd (omega arith)
-no_plus (c ∷ cs) at = rw at refl
-
--- a text that begins with `+` is not a number
-pub number_between-plus : (least most : ℕ) (text : List ℕ) → get_or text 0 0 ≡ 43 → number_between least most text ≡ None
-unfolding number_between
-number_between-plus least most text at = grind (arith, no_plus text at)
-
--- the number that parsing returned, if it is from `least` to `most`
-abbrev pub within : {E : Type 0} → ℕ → ℕ → Result ℕ E → Option ℕ
-within least most (Ok n) = cond (nat_le least n && nat_le n most) (Some n) None
-within least most (Err e) = None
-
--- if `text` doesn't begin with `+`, and `most` fits in 64 bits, then `number_between` returns the number that `parse`
--- returns, or None if `parse` fails or if the number isn't from `least` to `most`
-pub number_between-parsed : (E : Type 0) (least most : ℕ) (text : List ℕ) (r : Result ℕ E) → ParsesUnsigned 64 10 text r → get_or text 0 0 ≢ 43
-    → most < 2 ^ 64 → number_between least most text ≡ within least most r
-unfolding number_between
-number_between-parsed E least most text (Ok n) read unsigned small =
-    grind (arith, nat_tests, parse_plain own {E = E} 64 text (Ok n) read unsigned)
-number_between-parsed E least most text (Err e) refused unsigned small =
-    grind (arith, nat_tests, parse_plain own {E = E} 64 text (Err e) refused unsigned)
-
-pub number_between-range : (least most n : ℕ) (text : List ℕ) → Some n ≡ number_between least most text → (least ≤ n) × (n ≤ most)
-unfolding number_between
-number_between-range least most n text is = grind (arith, nat_tests)
-
-pub present_in-none : (text : List ℕ) → ((rest : List ℕ) → text ≢ 64 ∷ rest) → present_in text ≡ None
-unfolding present_in
-present_in-none [] h = refl
-present_in-none (b ∷ bs) h = grind (arith, nat_tests, h bs)
-
-pub present_in-some : (text rest : List ℕ) → text ≡ 64 ∷ rest → present_in text ≡ option_map pos (number_between 0 7_258_211_998 rest)
-unfolding present_in
-present_in-some text rest at = rw at refl
-
-pub instant_some : (made : Option Instant) (secs : ℤ) → IsSome made ↔ IsInstant secs → IfSome made (λ instant. instant.secs ≡ secs) → IsInstant secs
-    → option_map (λ instant. instant.secs) made ≡ Some secs
-instant_some made secs variant value inside = grind (arith, variant)
 
 -- if `c` is ASCII, then `split_once` at `c` returns the same parts of the text as `parts_at`
 pub parts_at-split : (c : ℕ) (text : List ℕ) (r : Option (Bor (List ℕ) × Bor (List ℕ))) → IsSplitOnceResult c text r → c < 128

@@ -4,7 +4,8 @@ use Rattle.clap.proofs.OnLiterals.{clap_on_literals}
 use Rattle.cal_command.specs.rules.CommandFault.{bad_iterations, help, usage}
 use Rattle.cal_command.specs.rules.CommandLine.{IsAskOf, ask_in, faults_in, parsed_in, read_options, takes_arguments}
 use Rattle.cal_command.specs.rules.VerbMatches.{verb_matches_in}
-use Rattle.cal_command.specs.rules.OptionValues.{count_in, number_between, present_in, zone_item_in, zone_items_in, zones_in}
+use Rattle.cal_command.specs.rules.OptionValues.{count_in, zone_item_in, zone_items_in, zones_in}
+use Rattle.cal_options.specs.rules.OptionNumbers.{present_in, number_between}
 use Rattle.cal_civil.specs.rules.ZoneName.{is_utc_name, is_zone_name}
 use Rattle.cal_zone.specs.rules.ZoneArgument.{zone_argument_in}
 use Rattle.cal_command.specs.rules.WorkedArguments.{daily_matches, daily_ask, daily_arguments, help_arguments, none_arguments, options_ask, options_arguments, stray_arguments}

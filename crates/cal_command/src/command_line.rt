@@ -1,31 +1,31 @@
 //! Parsing the command line: `clap` splits the arguments, and then the values that it found are checked.
 
 ghost use Rattle.std.specs.Prelude.{◌≡◌, ◌<◌, ◌⊎◌, [], length, map, IfOk, IfErr};
-ghost use Rattle.clap.specs.Words.{kind_of, subcommand_rows_of};
+ghost use Rattle.clap.specs.Words.{subcommand_rows_of};
 ghost use Rattle.cal_command.specs.rules.Ask.{shown_answer, texts_of};
-ghost use Rattle.cal_command.specs.rules.CommandFault.{no_memory, nothing_asked, shown_fault};
-ghost use Rattle.cal_command.specs.rules.CommandLine.{IsAskOf, IsFaultOf, IsOrNoMemory, IsReportedOf, faults_in, is_of_help, parsed_in, read_options};
+ghost use Rattle.cal_command.specs.rules.CommandFault.{no_memory, nothing_asked, reported, shown_fault};
+ghost use Rattle.cal_command.specs.rules.CommandLine.{IsAskOf, IsFaultOf, IsOrNoMemory, faults_in, parsed_in, read_options};
+ghost use Rattle.cal_options.specs.rules.ArgumentFault as refusals;
 ghost use Rattle.cal_command.specs.rules.VerbMatches.{shown_matches, verb_matches_in};
 
+use crate::arguments::{BASE_TIME, ITERATIONS, LOCAL, NOW, ZONES};
 use crate::ask::Ask;
 use crate::clap_command::build_command;
 use crate::command_fault::CommandFault;
 use crate::option_values::{base_of, iterations_of, local_zone_of, now_of, to_owned, zones_of};
-use crate::value_option::{BASE_TIME, ITERATIONS, LOCAL, NOW, ZONES};
 use crate::verb_matches::VerbMatches;
+use cal_options::ArgumentFault;
 use cal_request::Request;
-use clap::error::ErrorKind;
-use clap::{ArgMatches, Error};
+use clap::ArgMatches;
 use std::alloc::Global;
 use std::convert::AsStr;
 
 impl Ask {
     /// Parses the arguments after the program's name (systemd-analyze(1)): a verb, and then its options and texts in
-    /// any order. After an argument `--`, all arguments are texts.
+    /// any order. After an argument `--`, all arguments are texts. The table in `arguments.rt` says which options a verb
+    /// has.
     ///
-    /// - `calendar TEXT..` and `timer FILE` have `--iterations`, `--base-time`, `--now`, `--zones` and `--local`,
-    ///   `timestamp TEXT..` has `--now`, `--zones` and `--local`, and `timespan TEXT..` has none.
-    /// - `--iterations=N`: a number from 1 to 1,000,000, in digits only; 1 by default. Anything else is
+    /// - `--iterations=N`: a number in the range of its row, in digits only; 1 by default. Anything else is
     ///   [`CommandFault::BadIterations`].
     /// - `--base-time=STAMP`: any text, which isn't parsed here; the present by default.
     /// - `--now=@N`: `@` and a number from 0 to 7,258,211,998, in digits only; the system's clock by default. Anything
@@ -113,43 +113,19 @@ fn parse<'a, S: AsStr>(alloc: Global, arguments: &'a [S]) -> Result<ArgMatches<'
     ensures found { IfOk result (λ matches. verb_matches_in (subcommand_rows_of matches) ≡ parsed_in (map S.text arguments.now)) }
     ensures fault { IfErr result (λ fault. IsFaultOf (map S.text arguments.now) (shown_fault fault)) }
 {
-    match build_command(alloc)?.try_get_matches_from(arguments) {
+    match cal_options::parse(alloc, build_command(alloc)?, arguments) {
         Ok(matches) => Ok(matches),
-        Err(error) => Err(convert_error(alloc, &error)),
+        Err(fault) => Err(reported_fault(fault)),
     }
 }
 
-/// Converts an error of `clap`, which also reports help and the version as errors.
-fn convert_error(alloc: Global, error: &Error) -> CommandFault
-    ensures { IsReportedOf (kind_of error.now) (shown_fault result) }
+/// Converts an error that `clap` reports.
+fn reported_fault(fault: ArgumentFault) -> CommandFault
+    ensures { shown_fault result ≡ reported (refusals.shown_fault fault) }
 {
-    if error.kind() == ErrorKind::OutOfMemory {
-        return CommandFault::NoMemory;
+    match fault {
+        ArgumentFault::Usage(text) => CommandFault::Usage(text),
+        ArgumentFault::Help(text) => CommandFault::Help(text),
+        ArgumentFault::NoMemory => CommandFault::NoMemory,
     }
-    let Some(text) = error_text(alloc, error) else {
-        return CommandFault::NoMemory;
-    };
-    if is_of_help(error.kind()) {
-        CommandFault::Help(text)
-    } else {
-        CommandFault::Usage(text)
-    }
-}
-
-/// Returns the text of an error of `clap`. If the text doesn't end with a line feed, adds one. Returns `None` if
-/// allocation fails.
-fn error_text(alloc: Global, error: &Error) -> Option<String> {
-    let Ok(mut text) = error.to_string(alloc) else {
-        return None;
-    };
-    if !text.as_str().ends_with('\n') && text.push('\n').is_err() {
-        return None;
-    }
-    Some(text)
-}
-
-fn is_of_help(kind: ErrorKind) -> bool
-    ensures { result ≡ is_of_help kind }
-{
-    matches!(kind, ErrorKind::DisplayHelp | ErrorKind::DisplayVersion)
 }

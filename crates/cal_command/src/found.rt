@@ -7,8 +7,9 @@ ghost use Rattle.cal_command.specs.rules.Ask.{texts_of};
 ghost use Rattle.cal_command.specs.rules.VerbMatches.{elapse_option, shown_matches, texts_for, texts_kept, verb_matches_for, verb_matches_in, instant_option};
 ghost use Rattle.cal_request.specs.rules.Verb.{is_timer, seeks_elapses};
 
-use crate::value_option::ValueOption;
+use crate::arguments::TEXT;
 use crate::verb_matches::VerbMatches;
+use cal_options::{Argument, value_of};
 use cal_request::Verb;
 use clap::ArgMatches;
 
@@ -23,12 +24,12 @@ impl<'b, 'a> VerbMatches<'b, 'a> {
 
     /// Returns the value of an option that only the verbs that compute elapses have. Returns `None` if the verb doesn't
     /// compute elapses, or if the option wasn't given.
-    pub(crate) fn elapse_option(&self, option: ValueOption) -> Option<&'a str>
+    pub(crate) fn elapse_option(&self, option: Argument) -> Option<&'a str>
         ensures value { option_copied result ≡ elapse_option (shown_matches self.now) option.name.now }
         ensures sought { seeks_elapses self.now.verb ≡ false → result ≡ None }
     {
         if self.verb.seeks_elapses() {
-            self.values.get_str(option.name)
+            value_of(self.values, option)
         } else {
             None
         }
@@ -36,11 +37,11 @@ impl<'b, 'a> VerbMatches<'b, 'a> {
 
     /// Returns the value of an option that only the verbs that read or print instants have. Returns `None` if the verb
     /// neither reads nor prints instants, or if the option wasn't given.
-    pub(crate) fn instant_option(&self, option: ValueOption) -> Option<&'a str>
+    pub(crate) fn instant_option(&self, option: Argument) -> Option<&'a str>
         ensures { option_copied result ≡ instant_option (shown_matches self.now) option.name.now }
     {
         if self.verb.uses_instants() {
-            self.values.get_str(option.name)
+            value_of(self.values, option)
         } else {
             None
         }
@@ -64,7 +65,7 @@ fn texts_for<'b, 'a>(verb: Verb, values: &'b ArgMatches<'a>) -> Option<&'b [&'a 
     ensures file { IfSome result (λ texts. is_timer verb ≡ true → length texts.now ≤ 1) }
     ensures value { option_map (λ texts. texts_of texts.now) result ≡ texts_for verb (rows_of (found_of values.now)) }
 {
-    let texts = values.get_strs("text")?;
+    let texts = values.get_strs(TEXT)?;
     Some(texts_kept(verb, texts))
 }
 

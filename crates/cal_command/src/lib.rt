@@ -1,6 +1,7 @@
 //! Parsing of the program's command line (systemd-analyze(1)).
 #![tactic(auto)]
 
+mod arguments;
 mod ask;
 mod clap_command;
 mod command_fault;
@@ -8,7 +9,6 @@ pub mod command_laws;
 mod command_line;
 mod found;
 mod option_values;
-mod value_option;
 mod verb_help;
 mod verb_matches;
 

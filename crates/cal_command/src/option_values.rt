@@ -11,16 +11,16 @@ ghost use Rattle.std.specs.Option.{option_copied, option_map_or};
 ghost use Rattle.cal_bytes.specs.computed.SplitPieces.{left, pieces_after};
 ghost use Rattle.cal_command.specs.rules.Ask.{texts_of, shown_item};
 ghost use Rattle.cal_bytes.specs.rules.Separators.{is_comma};
-ghost use Rattle.cal_command.specs.rules.OptionValues.{count_in, number_between, parts_at, present_in, zone_item_in, zones_in};
+ghost use Rattle.cal_command.specs.rules.OptionValues.{count_in, parts_at, zone_item_in, zones_in};
+ghost use Rattle.cal_options.specs.rules.OptionNumbers.{present_in};
 ghost use Rattle.cal_request.specs.rules.Verb.{IsCount};
 ghost use Rattle.cal_zone.specs.rules.ZoneArgument.{HasOffset, in_utc, shown_zone_argument, zone_argument_in};
 
+use crate::arguments::ITERATIONS_NUMBER;
 use crate::ask::ZoneItem;
+use cal_options::{number_in, present_in};
 use cal_zone::{Instant, ZoneArgument, ZoneName};
 use std::alloc::{AllocError, Global};
-
-/// The maximum of `--iterations`. A greater number is an error.
-const MAX_ITERATIONS: u64 = 1_000_000;
 
 /// The maximum number of items of `--zones`. More items are an error.
 const MAX_ZONES: usize = 64;
@@ -88,35 +88,14 @@ pub(crate) fn local_zone_of(
     }
 }
 
-/// Parses a number of elapses, from 1 to [`MAX_ITERATIONS`], in digits only.
-pub(crate) fn count_in(value: &str) -> Option<u32>
+/// Parses a number of elapses.
+#[tactic(auto, unfolding(crate::specs::rules::OptionValues::count_in))]
+fn count_in(value: &str) -> Option<u32>
     ensures value { result ≡ count_in value.now }
     ensures range { IfSome result IsCount }
 {
-    let number = number_between(value, 1, MAX_ITERATIONS)?;
+    let number = number_in(ITERATIONS_NUMBER, value)?;
     Some(number as u32)
-}
-
-/// Parses an instant: `@` and a number from 0 to [`Instant::LAST`], in digits only.
-pub(crate) fn present_in(value: &str) -> Option<Instant>
-    ensures { option_map (λ instant. instant.secs) result ≡ present_in value.now }
-{
-    let number = number_between(value.strip_prefix('@')?, 0, Instant::LAST as u64)?;
-    Instant::new(number as i64)
-}
-
-/// Parses a number from `least` to `most`. Only digits are accepted, so a leading `+`, which `parse` would accept, is
-/// rejected first.
-fn number_between(text: &str, least: u64, most: u64) -> Option<u64>
-    ensures { result ≡ number_between least most text.now }
-{
-    if text.starts_with('+') {
-        return None;
-    }
-    match text.parse() {
-        Ok(number) if least <= number && number <= most => Some(number),
-        _ => None,
-    }
 }
 
 /// Parses the items of `--zones`, which are separated by commas.

@@ -2,48 +2,40 @@
 
 use cal_request::Verb;
 
-/// What the help says about one verb.
+/// A verb, and what its help says about it.
 #[derive(Clone, Copy)]
 pub(crate) struct VerbHelp {
+    pub(crate) verb: Verb,
     /// What the verb does, in one line.
     pub(crate) about: &'static str,
-    /// What the help calls an argument of the verb.
-    pub(crate) argument: &'static str,
-    /// What kind of text this argument is, and which manual describes it.
-    pub(crate) argument_help: &'static str,
     /// What the help says below the options: notes and examples.
     pub(crate) notes: &'static str,
 }
 
-/// Returns the texts for `calendar-analyze VERB --help`. The help of the program shows only `about`.
-pub(crate) fn help_of(verb: Verb) -> VerbHelp {
-    match verb {
-        Verb::Calendar => VerbHelp {
-            about: "Parse calendar expressions and show when they next elapse",
-            argument: "TEXT",
-            argument_help: "Calendar expression, as in systemd.time(7)",
-            notes: CALENDAR_NOTES,
-        },
-        Verb::Timestamp => VerbHelp {
-            about: "Parse timestamps and show the instants they resolve to",
-            argument: "TEXT",
-            argument_help: "Timestamp, as in systemd.time(7)",
-            notes: TIMESTAMP_NOTES,
-        },
-        Verb::Timespan => VerbHelp {
-            about: "Parse time spans and show how long they are",
-            argument: "TEXT",
-            argument_help: "Time span, as in systemd.time(7)",
-            notes: TIMESPAN_NOTES,
-        },
-        Verb::Timer => VerbHelp {
-            about: "Parse a timer file and show when the timer next elapses",
-            argument: "FILE",
-            argument_help: "Timer file, as in systemd.timer(5)",
-            notes: TIMER_NOTES,
-        },
-    }
-}
+/// The texts for `calendar-analyze VERB --help`, in the order in which the help of the program lists the verbs. That help
+/// shows only `about`.
+pub(crate) const VERB_HELPS: [VerbHelp; 4] = [
+    VerbHelp {
+        verb: Verb::Calendar,
+        about: "Parse calendar expressions and show when they next elapse",
+        notes: CALENDAR_NOTES,
+    },
+    VerbHelp {
+        verb: Verb::Timestamp,
+        about: "Parse timestamps and show the instants they resolve to",
+        notes: TIMESTAMP_NOTES,
+    },
+    VerbHelp {
+        verb: Verb::Timespan,
+        about: "Parse time spans and show how long they are",
+        notes: TIMESPAN_NOTES,
+    },
+    VerbHelp {
+        verb: Verb::Timer,
+        about: "Parse a timer file and show when the timer next elapses",
+        notes: TIMER_NOTES,
+    },
+];
 
 /// What the help of the program says below the list of the verbs.
 pub(crate) const STATUSES: &str =

@@ -9,6 +9,7 @@ pub mod machine;
 use crate::machine::Machine;
 use cal_bytes::{Port, Sink};
 pub use cal_command::{Ask, CommandFault, LocalZone, ZoneItem};
+use cal_options::NOT_UTF_8;
 pub use cal_report::{laws, run};
 pub use cal_request::{Request, RunFault, Status, Verb};
 pub use cal_work::{Ended, LoadFault, Stop, System, load_zone, work, write_stop};
@@ -17,12 +18,6 @@ use std::io::{BufWriter, ErrorKind, IsTerminal};
 use std::process::ExitCode;
 use std::rt::Env;
 use std::{env, io};
-
-/// The message for arguments that aren't UTF-8, in the words of `clap`.
-const NOT_UTF_8: &str = "error: invalid UTF-8 was detected in one or more arguments
-
-For more information, try '--help'.
-";
 
 /// The size of the output buffer, in bytes.
 const BUFFER_BYTES: usize = 8192;

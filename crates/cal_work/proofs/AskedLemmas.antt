@@ -23,10 +23,11 @@ use Rattle.cal_zone.specs.declared.zone_files.LoadFault.TheVariants.{ReadFailed,
 use Rattle.cal_zone.specs.rules.ZoneArgument.{ZoneArgument, in_utc, at_offset, by_rule, of_name}
 use Rattle.cal_command.specs.rules.Ask.{Ask, ZoneItem}
 use Rattle.cal_command.specs.rules.CommandFault.{CommandFault, usage, help, bad_value, bad_iterations, bad_local, bad_now, bad_zones, no_memory, nothing_asked}
-use Rattle.cal_command.specs.rules.CommandLine.{IsAskOf, ask_in, is_of_help, parsed_in, read_options, unless_bad, unless_empty}
-use Rattle.cal_command.specs.rules.OptionValues.{number_between, present_in}
+use Rattle.cal_command.specs.rules.CommandLine.{IsAskOf, ask_in, parsed_in, read_options, unless_bad, unless_empty}
+use Rattle.cal_options.specs.rules.ArgumentFault.{is_of_help}
+use Rattle.cal_options.specs.rules.OptionNumbers.{number_between, present_in}
 use Rattle.cal_command.specs.rules.VerbMatches.{VerbMatches, elapse_option, instant_option}
-use Rattle.cal_command.proofs.OptionLemmas.{number_between-range}
+use Rattle.cal_options.proofs.NumberLemmas.{number_between-range}
 use Rattle.cal_report.specs.rules.ReportLines.{Report}
 use Rattle.cal_request.specs.rules.Request.{Request}
 use Rattle.cal_work.specs.rules.Outcome.{World, ZoneFound, and_then, asked_at, instant_in, loaded, local_by, or_clock_stop, or_load_stop, outcome, outcome_of, outcome_of_parsed, present_by, run_by, table_by, with_bytes, with_file, with_zone}

@@ -2,6 +2,7 @@
 -- and this project's own messages.
 use Rattle.std.specs.Prelude.{ℕ, List, [], codes}
 use Rattle.std.specs.String.{string_bytes}
+use Rattle.cal_options.specs.rules.ArgumentFault as refusals
 use Rattle.cal_command.specs.declared.command_fault.CommandFault as declared_fault
 use Rattle.cal_command.specs.declared.command_fault.CommandFault.TheVariants.{Usage, Help, BadIterations, BadNow, BadZones, BadLocal, NoMemory}
 
@@ -28,6 +29,12 @@ bad_local = bad_value (codes "bad local zone")
 -- the error if `clap` accepts the arguments, but finds no verb or no text in them
 abbrev pub nothing_asked : CommandFault
 nothing_asked = usage (codes "calendar-analyze: no verb or no text\n")
+
+-- the error for one of `clap`
+abbrev pub reported : refusals.Fault → CommandFault
+reported (refusals.usage text) = usage text
+reported (refusals.help text) = help text
+reported refusals.no_memory = no_memory
 
 abbrev pub shown_fault : declared_fault.CommandFault → CommandFault
 shown_fault (Usage text) = usage (string_bytes text)

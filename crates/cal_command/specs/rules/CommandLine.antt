@@ -1,29 +1,27 @@
 -- The command line (systemd-analyze(1)): the command that is described to `clap`, and what the arguments ask for, given
 -- what `clap` finds in them.
-use Rattle.std.specs.Prelude.{◌≡◌, ◌≢◌, ◌⊎◌, ⊤, Bool, true, false, not, List, [], ◌∷◌, ◌++◌, map, Option, None, Some, Result, Ok, Err, codes, if◌then◌else◌, option_map}
+use Rattle.std.specs.Prelude.{◌≡◌, ◌⊎◌, ⊤, Bool, true, false, not, List, [], ◌∷◌, ◌++◌, map, Option, None, Some, Result, Ok, Err, codes, if◌then◌else◌, option_map}
 use Rattle.std.specs.List.{list_any}
 use Rattle.std.specs.Option.{option_map_or}
-use Rattle.clap.specs.Words.{App, Kinds, Rule, Shape, Text, fault_of, new_app, new_rule, subcommand_of, takes, with_subcommand}
+use Rattle.clap.specs.Words.{App, Kinds, Rule, Shape, Text, fault_of, new_app, subcommand_of, takes}
 use Rattle.clap.specs.declared.builder.ArgAction.TheVariants.{Append, Set}
 use Rattle.clap.specs.declared.error.kind.ErrorKind.{ErrorKind}
-use Rattle.clap.specs.declared.error.kind.ErrorKind.TheVariants.{DisplayHelp, DisplayVersion, OutOfMemory}
-use Rattle.cal_request.specs.rules.Verb.{all_verbs, uses_instants, is_timer, seeks_elapses, verb_name}
+use Rattle.cal_request.specs.rules.Verb.{all_verbs, is_timer, seeks_elapses, uses_instants, verb_name}
 use Rattle.cal_request.specs.declared.verb.Verb.{Verb}
 use Rattle.cal_command.specs.rules.Ask.{Ask}
 use Rattle.cal_command.specs.rules.CommandFault.{CommandFault, usage, help, bad_value, bad_iterations, bad_now, bad_zones, bad_local, no_memory, nothing_asked}
-use Rattle.cal_command.specs.rules.OptionValues.{count_in, present_in, zones_in}
-use Rattle.cal_command.specs.declared.value_option.ValueOption.{ValueOption}
+use Rattle.cal_command.specs.rules.OptionValues.{count_in, zones_in}
+use Rattle.cal_options.specs.rules.ArgumentFault.{is_of_help}
+use Rattle.cal_options.specs.rules.Arguments.{positional_rule, value_rule}
+use Rattle.cal_options.specs.rules.OptionNumbers.{present_in}
 use Rattle.cal_command.specs.rules.VerbMatches.{VerbMatches, elapse_option, verb_matches_in, instant_option}
 use Rattle.cal_zone.specs.rules.ZoneArgument.{in_utc, zone_argument_in}
 
 -- ## The command, as it is described to `clap`
 
--- an option that takes one value and may be given once
+-- an option that has a value and no short form
 abbrev pub option_rule : Text → Rule
-option_rule name = record (new_rule name) { long = Some name; action = Some Set; value_names = 1 }
-
-abbrev pub shown_option : ValueOption → Rule
-shown_option option = option_rule option.name.now
+option_rule name = value_rule name None
 
 -- the options of the verbs that read or print instants
 abbrev pub instant_rules : List Rule
@@ -38,11 +36,15 @@ option_rules verb = if seeks_elapses verb then elapse_rules else if uses_instant
 
 -- the positional argument: one or more texts, or the one path of a timer file
 abbrev pub texts_rule : Verb → Rule
-texts_rule verb = record (new_rule (codes "text")) { action = Some (if is_timer verb then Set else Append); value_names = 1; required = true }
+texts_rule verb = positional_rule (codes "text") (if is_timer verb then Set else Append) true
+
+-- the options and the positional argument of a verb
+abbrev pub verb_rules : Verb → List Rule
+verb_rules verb = option_rules verb ++ texts_rule verb ∷ []
 
 -- the subcommand of a verb
 abbrev pub verb_shape : Verb → Shape
-verb_shape verb = record (new_app (verb_name verb)).top { rules = option_rules verb ++ texts_rule verb ∷ [] }
+verb_shape verb = record (new_app (verb_name verb)).top { rules = verb_rules verb }
 
 -- the command of the program itself
 abbrev pub program_shape : Shape
@@ -51,15 +53,6 @@ program_shape = record (new_app (codes "calendar-analyze")).top { no_binary_name
 -- the whole command: that of the program, and a subcommand for each verb
 abbrev pub command_app : App
 command_app = record { top = record program_shape { is_leaf = false }; subs = map verb_shape all_verbs }
-
--- adds options and positional arguments to the command, after those that it has
-abbrev pub with_rules : App → List Rule → App
-with_rules app rules = record app { top = record app.top { rules = app.top.rules ++ rules } }
-
--- adds subcommands to the command, in the order of the list
-abbrev pub with_subcommands : App → List Shape → App
-with_subcommands app [] = app
-with_subcommands app (shape ∷ shapes) = with_subcommands (with_subcommand app shape) shapes
 
 -- whether `clap` accepts the arguments
 unfoldable pub takes_arguments : List Text → Bool
@@ -110,11 +103,6 @@ ask_in arguments = option_map_or (λ found. unless_empty found.texts (read_optio
 
 -- ## Which results are right
 
-abbrev pub is_of_help : ErrorKind → Bool
-is_of_help DisplayHelp = true
-is_of_help DisplayVersion = true
-is_of_help _ = false
-
 -- `clap` parses the arguments, and `answer` is what they ask for, or the error for the first invalid value (`ask_in`)
 abbrev pub HasRead : List Text → Result Ask CommandFault → Type 0
 HasRead arguments answer = (faults_in arguments ≡ []) × (ask_in arguments ≡ answer)
@@ -138,13 +126,6 @@ IsFaultOf arguments no_memory = ⊤
 abbrev pub IsAskOf : List Text → Result Ask CommandFault → Type 0
 IsAskOf arguments (Ok ask) = HasRead arguments (Ok ask)
 IsAskOf arguments (Err fault) = IsFaultOf arguments fault
-
--- the `CommandFault` may be reported if `clap` returns an error of the kind `kind`
-abbrev pub IsReportedOf : ErrorKind → CommandFault → Type 0
-IsReportedOf kind (usage text) = (is_of_help kind ≡ false) × (kind ≢ OutOfMemory)
-IsReportedOf kind (help text) = (is_of_help kind ≡ true) × (kind ≢ OutOfMemory)
-IsReportedOf kind no_memory = ⊤
-IsReportedOf kind _ = ⊥
 
 -- `answer` is the error `fault`, or `fault` is the error for a failed allocation; `fault` is neither usage nor help
 abbrev pub IsFaultOrNoMemory : CommandFault → Result Ask CommandFault → Type 0

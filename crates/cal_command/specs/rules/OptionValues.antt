@@ -1,31 +1,17 @@
--- How the values of options are parsed: `--iterations` of systemd-analyze(1), and this project's own `--now` and
--- `--zones`. The value of `--local` is a `ZoneArgument` of `cal_zone`, and that of `--base-time` is a timestamp, which
--- isn't parsed here.
-use Rattle.std.specs.Prelude.{ℕ, ℤ, ◌&&◌, ◌==◌, Bool, pos, List, [], ◌∷◌, length, Option, None, Some, nat_lt, nat_le, if◌then◌else◌, unsigned_abs, option_and_then, option_map}
+-- How the values of options are parsed: `--iterations` of systemd-analyze(1), and this project's own `--zones`. The
+-- value of `--local` is a `ZoneArgument` of `cal_zone`, and that of `--base-time` is a timestamp, which isn't parsed
+-- here.
+use Rattle.std.specs.Prelude.{ℕ, ◌&&◌, Bool, List, [], ◌∷◌, length, Option, None, Some, nat_lt, nat_le, if◌then◌else◌, option_and_then, option_map}
 use Rattle.std.specs.List.{after_first, before_first, list_any, slice_split}
-use Rattle.std.specs.Str.{all_ascii_digits}
-use Rattle.std.specs.Str.Parse.{digits_value}
-use Rattle.cal_zone.specs.rules.Instant.{last_instant}
 use Rattle.cal_civil.specs.rules.ZoneName.{is_zone_name}
 use Rattle.cal_command.specs.rules.Ask.{ZoneItem}
+use Rattle.cal_options.specs.rules.OptionNumbers.{number_between}
 use Rattle.cal_request.specs.rules.Verb.{max_iterations}
 use Rattle.cal_bytes.specs.rules.Separators.{is_equals, is_comma}
-
--- the number that a text of digits stands for, if it is from `least` to `most`
-unfoldable pub number_between : ℕ → ℕ → List ℕ → Option ℕ
-number_between least most text =
-    let number = digits_value 10 text in
-    if nat_lt 0 (length text) && all_ascii_digits text && nat_le least number && nat_le number most
-    then Some number else None
 
 -- `--iterations`: a number of elapses, from 1 to `max_iterations`
 unfoldable pub count_in : List ℕ → Option ℕ
 count_in = number_between 1 max_iterations
-
--- `--now`: an instant, written as `@` and its seconds
-unfoldable pub present_in : List ℕ → Option ℤ
-present_in [] = None
-present_in (byte ∷ bytes) = if byte == 64 then option_map pos (number_between 0 (unsigned_abs last_instant) bytes) else None
 
 -- the parts of a text before and after its first separator, or None if there is no separator
 abbrev pub parts_at : (ℕ → Bool) → List ℕ → Option (List ℕ × List ℕ)

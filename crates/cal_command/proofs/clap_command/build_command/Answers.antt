@@ -3,7 +3,8 @@ use Rattle.std.proofs.lemmas.Result.{IfOk-weaker}
 use Rattle.clap.specs.Simple.{app_of_fields, on_top}
 use Rattle.clap.specs.Words.{App}
 use Rattle.cal_request.specs.rules.Verb.{all_verbs}
-use Rattle.cal_command.specs.rules.CommandLine.{verb_shape, with_subcommands}
+use Rattle.cal_options.specs.rules.Arguments.{with_subcommands}
+use Rattle.cal_command.specs.rules.CommandLine.{verb_shape}
 use Rattle.cal_command.proofs.clap_command.build_command.Goals as goal
 
 pub returns : goal.returns
@@ -15,4 +16,4 @@ returns c =
     ∙ ap required (ap app_of_fields c.no_binary_name.ensures
     ∙ ap nameless (ap app_of_fields c.after_help.ensures ∙ ap app_of_fields c.about.ensures ∙ ap app_of_fields c.version.ensures
     ∙ ap versioned c.new.ensures.app)) in
-    IfOk-weaker c.with_verbs.result _ _ (λ command is. is ∙ ap (λ app. with_subcommands app (map verb_shape all_verbs)) top) c.with_verbs.ensures
+    IfOk-weaker c.with_subcommands.result _ _ (λ command is. is ∙ ap (λ app. with_subcommands app (map verb_shape all_verbs)) top) c.with_subcommands.ensures
