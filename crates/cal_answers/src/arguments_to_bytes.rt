@@ -9,7 +9,8 @@ use crate::answer::Answer;
 use crate::whole::answer_on;
 use cal_bytes::{Sink, put_all, put_pieces};
 use cal_machine::Raw;
-use cal_timers_command::{Command, CommandFault, asks_due};
+use cal_options::ArgumentFault;
+use cal_timers_command::{Command, asks_due};
 use cal_timers_report::Style;
 use std::alloc::{AllocError, Global};
 use std::convert::AsStr;
@@ -81,17 +82,17 @@ fn answer_for<S: System + Drop, T: AsStr>(
 {
     match Command::of(alloc, arguments) {
         Ok(command) => answer_on_system(alloc, system, &command, style),
-        Err(CommandFault::Help(text)) => Ok(Answer {
+        Err(ArgumentFault::Help(text)) => Ok(Answer {
             out: text,
             err: String::new(alloc),
             status: 0,
         }),
-        Err(CommandFault::Usage(text)) => Ok(Answer {
+        Err(ArgumentFault::Usage(text)) => Ok(Answer {
             out: String::new(alloc),
             err: text,
             status: USAGE,
         }),
-        Err(CommandFault::NoMemory) => Err(AllocError),
+        Err(ArgumentFault::NoMemory) => Err(AllocError),
     }
 }
 

@@ -9,6 +9,7 @@ pub mod machine;
 use crate::machine::Machine;
 use cal_answers::answer_arguments;
 use cal_bytes::{Port, Sink, put_all};
+use cal_options::NOT_UTF_8;
 use cal_timers_report::Style;
 use std::env::FillError;
 use std::io::{ErrorKind, IsTerminal};
@@ -33,11 +34,6 @@ const MIN_WIDTH: usize = 80;
 const MAX_WIDTH: usize = 1_000_000;
 
 const OUT_OF_MEMORY: &str = "calendar-timers: out of memory\n";
-
-const NOT_UTF_8: &str = "error: invalid UTF-8 was detected in one or more arguments
-
-For more information, try '--help'.
-";
 
 fn main(rt: HostRuntime) -> ExitCode {
     let mut err = Port::new(rt.stderr());

@@ -1,28 +1,9 @@
--- Lemmas about the command that is described to `clap`.
-use Rattle.std.proofs.Common.{◌≡◌, ◌+◌, ◌<◌, ◌≤◌, ℕ, List, [], ◌∷◌, add-one, append-nil, append_assoc, ap, drop, drop-cons, get_or, length, map, refl, true}
-use Rattle.std.proofs.lemmas.List.{drop_all}
-use Rattle.clap.specs.Words.{App, Rule, is_simple, is_simple_and_free, with_rule}
+-- A lemma about the command that is described to `clap`.
+use Rattle.std.proofs.Common.{◌≡◌, refl, true}
+use Rattle.clap.specs.Words.{is_simple_and_free}
 use Rattle.clap.proofs.OnLiterals.{clap_on_literals}
-use Rattle.cal_timers_command.specs.rules.CommandLine.{command_app, with_rules}
-
--- adding one argument and then the others is the same as adding all of them at once
-pub with_rule-rules : (app : App) (rule : Rule) (rules : List Rule) → with_rules (with_rule app rule) rules ≡ with_rules app (rule ∷ rules)
-with_rule-rules app rule rules = ap (λ rules. record app { top = record app.top { rules = rules } }) (append_assoc app.top.rules (rule ∷ []) rules)
-
-pub with_rules-none : (app : App) → with_rules app [] ≡ app
-with_rules-none app = ap (λ rules. record app { top = record app.top { rules = rules } }) (append-nil app.top.rules)
-
--- mapping the items from index `i` on yields the mapped item at `i`, followed by the mapped items from `i` + 1 on
-pub next_mapped : {A B : Type 0} (f : A → B) (xs : List A) (i : ℕ) (d : A) → i < length xs → f (get_or xs i d) ∷ map f (drop (i + 1) xs) ≡ map f (drop i xs)
-next_mapped f xs i d h = rw (add-one, drop-cons xs i d h) refl
-
-pub items_end : {A B : Type 0} (f : A → B) (xs : List A) (i : ℕ) → length xs ≤ i → map f (drop i xs) ≡ []
-items_end f xs i h = ap (map f) (drop_all i xs h)
+use Rattle.cal_timers_command.specs.rules.CommandLine.{command_app}
 
 pub is_free_command : is_simple_and_free command_app ≡ true
 unfolding clap_on_literals
 is_free_command = refl
-
-pub is_simple_command : is_simple command_app ≡ true
-unfolding clap_on_literals
-is_simple_command = refl

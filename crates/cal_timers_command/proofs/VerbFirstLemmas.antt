@@ -4,7 +4,8 @@ use Rattle.std.proofs.lemmas.List.{drop-map, take-map, take_rest}
 use Rattle.std.specs.Prelude.{not}
 use Rattle.std.specs.Str.{bytes_eq}
 use Rattle.clap.specs.Words.{Text}
-use Rattle.cal_timers_command.specs.rules.VerbFirst.{asks_due, first_failing, first_word, is_option, is_passed, is_value_at, leads, list_first, moved_first, needs_value, verb_first}
+use Rattle.cal_timers_command.specs.rules.VerbFirst.{asks_due, first_failing, first_word, is_option, is_passed, is_value_at, leads, list_first, moved_first, verb_first}
+use Rattle.cal_timers_command.specs.rules.CommandLine.{needs_value}
 
 next_none : (test : ℕ → Bool) (i : ℕ) → first_failing test i ≡ None → test i ≡ true → first_failing test (i + 1) ≡ None
 unfolding first_failing

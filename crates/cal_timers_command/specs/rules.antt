@@ -2,8 +2,8 @@
 pub mod Questions
 pub mod Texts
 pub mod Verbs
-pub mod VerbFirst
 pub mod CommandLine
+pub mod VerbFirst
 pub mod OptionValues
 pub mod Asked
 pub mod WorkedQuestions

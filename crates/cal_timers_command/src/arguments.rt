@@ -1,50 +1,26 @@
-//! The options and the positional arguments of each verb. Their names are also used to look up the values that `clap`
-//! has parsed.
+//! The table of options: the options and the positional arguments of each verb. The values that `clap` has parsed are
+//! looked up by these rows, too.
 
 ghost use Rattle.std.specs.Prelude.{◌≡◌, map};
-ghost use Rattle.cal_timers_command.specs.rules.CommandLine.{shown_argument, verb_rules};
-ghost use Rattle.cal_timers_command.specs.rules.VerbFirst.{needs_value};
+ghost use Rattle.std.specs.List.{list_any};
+ghost use Rattle.cal_options.specs.rules.Arguments.{is_value_option, shown_argument};
+ghost use Rattle.cal_timers_command.specs.rules.CommandLine.{needs_value, verb_rules};
 
 use crate::verb::Verb;
+use cal_options::{Argument, ArgumentForm, NumberOption};
 
-/// An option or a positional argument, and what the help says about it.
-#[derive(Clone, Copy)]
-pub(crate) struct Argument {
-    /// The name of an option, without the `--` before it. Users don't see the name of a positional argument.
-    pub(crate) name: &'static str,
-    pub(crate) form: ArgumentForm,
-    /// What the help calls the value, or an empty text if the option has no value.
-    pub(crate) value_name: &'static str,
-    /// The text in the help. `clap` prints a line break for `{n}`.
-    pub(crate) help: &'static str,
-}
-
-/// How an argument is given.
-#[derive(Clone, Copy)]
-pub(crate) enum ArgumentForm {
-    /// As an option with a value, at most once.
-    Value,
-    /// Like `Value`; the option also has a short form, as in `-n 3`.
-    ShortValue(char),
-    /// As an option without a value.
-    Flag,
-    /// Like `Flag`; the option also has a short form, as in `-a`.
-    ShortFlag(char),
-    /// As one positional argument, which is required.
-    One,
-    /// As a positional argument that may be left out.
-    AtMostOne,
-    /// As any number of positional arguments.
-    Any,
-    /// As at least one positional argument.
-    AtLeastOne,
-}
-
-pub(crate) const COUNT: Argument = Argument {
+const COUNT: Argument = Argument {
     name: "count",
-    form: ArgumentForm::ShortValue('n'),
+    form: ArgumentForm::ShortValue(b'n'),
     value_name: "N",
     help: "Show at most N elapses, 1 to 1000000 [default: 5]",
+};
+
+/// The numbers that `--count` accepts.
+pub(crate) const COUNT_NUMBER: NumberOption = NumberOption {
+    option: COUNT,
+    least: 1,
+    most: 1_000_000,
 };
 
 pub(crate) const ZONE: Argument = Argument {
@@ -93,7 +69,7 @@ pub(crate) const USER: Argument = Argument {
 
 pub(crate) const ALL: Argument = Argument {
     name: "all",
-    form: ArgumentForm::ShortFlag('a'),
+    form: ArgumentForm::ShortFlag(b'a'),
     value_name: "",
     help: "Without UNIT, FILE and DIR,{n}also take timers that no other unit starts",
 };
@@ -123,15 +99,15 @@ pub(crate) const JSON: Argument = Argument {
 pub(crate) const SHARED: [Argument; 7] = [ZONE, UTC, IN, NOW, ROOT, USER, JSON];
 
 /// The name under which `clap` stores the first argument of `between` or `same`.
-pub(crate) const FIRST: &str = "first";
+const FIRST: &str = "first";
 
 /// The name under which `clap` stores the second argument of `between` or `same`.
-pub(crate) const SECOND: &str = "second";
+const SECOND: &str = "second";
 
 /// The name under which `clap` stores all other targets.
-pub(crate) const TARGET: &str = "target";
+const TARGET: &str = "target";
 
-const ANY_TIMERS: Argument = Argument {
+pub(crate) const ANY_TIMERS: Argument = Argument {
     name: TARGET,
     form: ArgumentForm::Any,
     value_name: "UNIT|FILE|DIR",
@@ -152,7 +128,7 @@ const EXPRESSIONS: Argument = Argument {
     help: "Calendar expression (systemd.time(7)) or crontab entry",
 };
 
-const ONE_TIMER: Argument = Argument {
+pub(crate) const ONE_TIMER: Argument = Argument {
     name: TARGET,
     form: ArgumentForm::AtMostOne,
     value_name: "UNIT|FILE",
@@ -174,28 +150,28 @@ const CRON_ROOT: Argument = Argument {
     help: "Look for crontabs below this directory [default: /]",
 };
 
-const FROM: Argument = Argument {
+pub(crate) const FROM: Argument = Argument {
     name: FIRST,
     form: ArgumentForm::One,
     value_name: "FROM",
     help: "Start of the range",
 };
 
-const TO: Argument = Argument {
+pub(crate) const TO: Argument = Argument {
     name: SECOND,
     form: ArgumentForm::One,
     value_name: "TO",
     help: "End of the range",
 };
 
-const ONE_SIDE: Argument = Argument {
+pub(crate) const ONE_SIDE: Argument = Argument {
     name: FIRST,
     form: ArgumentForm::One,
     value_name: "A",
     help: "Unit, timer file, calendar expression or crontab entry",
 };
 
-const OTHER_SIDE: Argument = Argument {
+pub(crate) const OTHER_SIDE: Argument = Argument {
     name: SECOND,
     form: ArgumentForm::One,
     value_name: "B",
@@ -222,14 +198,20 @@ const DUE_ARGUMENTS: [Argument; 8] = [ZONE, UTC, IN, NOW, ROOT, USER, JSON, ONE_
 
 const CRON_ARGUMENTS: [Argument; 3] = [CRON_ROOT, JSON, CRONTABS];
 
-/// Returns whether the argument is an option whose value is the next argument.
+/// Returns whether the argument is an option, of any verb, whose value is the next argument.
 pub(crate) fn needs_value(argument: &str) -> bool
     ensures { result ≡ needs_value argument.now }
 {
-    matches!(
-        argument,
-        "-n" | "--count" | "--zone" | "--in" | "--now" | "--root"
-    )
+    Verb::ALL
+        .iter()
+        .any(|verb| is_value_option_of(*verb, argument))
+}
+
+/// Returns whether the argument is an option of the verb whose value is the next argument.
+fn is_value_option_of(verb: Verb, argument: &str) -> bool
+    ensures { result ≡ list_any (is_value_option argument.now) (verb_rules verb) }
+{
+    cal_options::needs_value(arguments_of(verb), argument)
 }
 
 /// Returns the arguments of a verb, in the order in which the help lists them.

@@ -1,14 +1,12 @@
-//! Laws of the arguments: one for all arguments, one for the options, and three for worked examples.
+//! Laws of the arguments: one for all arguments, and three for worked examples.
 //!
 //! Each law is a function with an empty body, whose contract states the law.
 
 ghost use Rattle.std.specs.Prelude.{◌≡◌, ◌<◌, ℕ, List, [], ◌∷◌, None, Some, codes, false, length, true};
-ghost use Rattle.std.specs.List.{list_all};
-ghost use Rattle.cal_timers_command.specs.rules.Asked.{Command, Fault, IsCommandOf, IsFaultOf, between, due, help, list, next, no_memory, show, usage};
-ghost use Rattle.cal_timers_command.specs.rules.CommandLine.{agrees_on_value, verb_rules};
+ghost use Rattle.cal_timers_command.specs.rules.Asked.{Command, IsCommandOf, IsFaultOf, between, due, list, next, show};
+ghost use Rattle.cal_options.specs.rules.ArgumentFault.{Fault, help, no_memory, usage};
 ghost use Rattle.cal_timers_command.specs.rules.OptionValues.{zone_clash};
 ghost use Rattle.cal_timers_command.specs.rules.VerbFirst.{asks_due};
-ghost use Rattle.cal_timers_command.specs.rules.Verbs.{all_verbs};
 ghost use Rattle.cal_timers_command.specs.rules.WorkedQuestions.{clash_arguments, count_arguments, due_arguments, due_two_arguments, due_unit_arguments, help_arguments, in_utc, plain, range_arguments, show_arguments, target_arguments, utc_arguments};
 
 /// No arguments ask two different things. If arguments ask something, the only error that they can result in is a failed
@@ -16,12 +14,6 @@ ghost use Rattle.cal_timers_command.specs.rules.WorkedQuestions.{clash_arguments
 pub fn arguments_ask_one_command()
     ensures command { (arguments : List (List ℕ)) (one other : Command) → IsCommandOf arguments one → IsCommandOf arguments other → one ≡ other }
     ensures fault { (arguments : List (List ℕ)) (command : Command) (fault : Fault) → IsCommandOf arguments command → IsFaultOf arguments fault → fault ≡ no_memory }
-{}
-
-/// The search for the verb skips the argument after an option of a verb if and only if the option is described to
-/// `clap` as having a value.
-pub fn value_options_have_values()
-    ensures { list_all (λ verb. list_all agrees_on_value (verb_rules verb)) all_verbs ≡ true }
 {}
 
 /// What these arguments ask: none at all, `show backup`, `backup`, `--utc list`, `-n 3 next daily`,

@@ -2,16 +2,17 @@
 
 ghost use Rattle.std.specs.Prelude.{◌≡◌, Ok, IfErr, IfOk, map};
 ghost use Rattle.clap.specs.Words.{found_of, rows_of, subcommand_rows_of};
-ghost use Rattle.cal_timers_command.specs.rules.Asked.{IsCommandOf, IsFaultIn, IsFaultOf, command_for, command_found, shown_command, shown_fault};
+ghost use Rattle.cal_timers_command.specs.rules.Asked.{IsCommandOf, IsFaultIn, IsFaultOf, command_for, command_found, shown_command};
+ghost use Rattle.cal_options.specs.rules.ArgumentFault.{shown_fault};
 ghost use Rattle.cal_timers_command.specs.rules.Questions.{HasText};
 
-use crate::command_fault::CommandFault;
 use crate::command_line::parse;
 use crate::options::options_of;
 use crate::question::Command;
 use crate::verb::Verb;
 use crate::verb_first::with_verb_first;
 use crate::verb_questions::{no_question, question_of};
+use cal_options::ArgumentFault;
 use clap::ArgMatches;
 use std::alloc::Global;
 use std::convert::AsStr;
@@ -23,35 +24,13 @@ impl Command {
     /// verb. Otherwise, this argument is a target, and the verb is `list`. The verb is also `list` if there is no such
     /// argument before `--`. All arguments after `--` are targets; options may be given anywhere before `--`.
     ///
-    /// The targets of each verb are:
+    /// The table in `arguments.rt` says which options and targets a verb has, and [`Question`](crate::Question) and
+    /// [`Options`](crate::Options) what they mean. The forms of zones, times and targets aren't checked here.
     ///
-    /// - `list`, `lint`: any number of units, files and folders.
-    /// - `show`: one or more units, files and folders.
-    /// - `between`: two times, and then any number of units, files and folders.
-    /// - `same`: two units, files or expressions.
-    /// - `next`: one or more expressions.
-    /// - `due`: at most one unit or file.
-    /// - `cron`: any number of files and lines of crontabs.
-    ///
-    /// The options are, of which `cron` has only `--root` and `--json`:
-    ///
-    /// - `--count=N` or `-n N`, for `show` and `next`: a number from 1 to 1,000,000, in digits only.
-    /// - `--zone=ZONE`: a zone, whose form isn't checked here. `--utc` is the same as `--zone=UTC`.
-    /// - `--in=ZONE`, for all verbs except `lint`: the zone in which times are shown. Its form isn't checked here,
-    ///   either.
-    /// - `--now=@N`: `@` and a number from 0 to 7,258,211,998, in digits only.
-    /// - `--root=DIR`: the path of a folder.
-    /// - `--user`, for all verbs except `next`: the user's units instead of the system's.
-    /// - `--all` or `-a`, for `list`, `lint` and `between`: without units, files and folders, also timers that no other
-    ///   unit starts.
-    /// - `--cron`, for `list` and `between`: also the entries of the machine's crontabs.
-    /// - `--strict`, for `lint`: warnings give status 1, too.
-    /// - `--json`: output as JSON.
-    ///
-    /// Fails with [`CommandFault::Help`] if the arguments ask for help or the version, with [`CommandFault::NoMemory`]
-    /// only if allocation fails, and with [`CommandFault::Usage`] if the arguments are invalid: for example, if an
+    /// Fails with [`ArgumentFault::Help`] if the arguments ask for help or the version, with [`ArgumentFault::NoMemory`]
+    /// only if allocation fails, and with [`ArgumentFault::Usage`] if the arguments are invalid: for example, if an
     /// option is given twice, if its value is empty, or if `--zone` is given with `--utc`.
-    pub fn of<S: AsStr>(alloc: Global, arguments: &[S]) -> Result<Command, CommandFault>
+    pub fn of<S: AsStr>(alloc: Global, arguments: &[S]) -> Result<Command, ArgumentFault>
         ensures command { IfOk result (λ command. IsCommandOf (map S.text arguments.now) (shown_command command)) }
         ensures fault { IfErr result (λ fault. IsFaultOf (map S.text arguments.now) (shown_fault fault)) }
         ensures text { IfErr result HasText }
@@ -63,7 +42,7 @@ impl Command {
 }
 
 /// Returns the command that the verb and the values in `matches` ask for, or the error of the first invalid value.
-fn command_found(alloc: Global, matches: &ArgMatches<'_>) -> Result<Command, CommandFault>
+fn command_found(alloc: Global, matches: &ArgMatches<'_>) -> Result<Command, ArgumentFault>
     ensures command { IfOk result (λ command. command_found (subcommand_rows_of matches.now) ≡ Ok (shown_command command)) }
     ensures fault { IfErr result (IsFaultIn (command_found (subcommand_rows_of matches.now))) }
 {
@@ -78,7 +57,8 @@ fn command_found(alloc: Global, matches: &ArgMatches<'_>) -> Result<Command, Com
 
 /// Returns the command of a verb with these values, or the error of the first invalid value. The values that only some
 /// verbs have are checked before the options that most verbs share.
-fn command_of(alloc: Global, verb: Verb, values: &ArgMatches<'_>) -> Result<Command, CommandFault>
+#[tactic(auto, unfolding(crate::specs::rules::Asked::command_for))]
+fn command_of(alloc: Global, verb: Verb, values: &ArgMatches<'_>) -> Result<Command, ArgumentFault>
     ensures command { IfOk result (λ command. command_for verb (rows_of (found_of values.now)) ≡ Ok (shown_command command)) }
     ensures fault { IfErr result (IsFaultIn (command_for verb (rows_of (found_of values.now)))) }
 {

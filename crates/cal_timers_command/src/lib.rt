@@ -3,11 +3,11 @@
 
 mod arguments;
 mod clap_command;
-mod command_fault;
 pub mod command_laws;
 mod command_line;
 mod find;
 mod help_texts;
+mod messages;
 mod options;
 mod question;
 mod values;
@@ -15,7 +15,6 @@ mod verb;
 mod verb_first;
 mod verb_questions;
 
-pub use command_fault::CommandFault;
 pub use question::{Command, Options, Question};
 pub use verb::Verb;
 pub use verb_first::asks_due;

@@ -5,15 +5,16 @@ ghost use Rattle.clap.specs.Words.{found_of, rows_of};
 ghost use Rattle.cal_timers_command.specs.rules.Asked.{IsFaultIn, options_for, shown_options};
 
 use crate::arguments::{JSON, USER};
-use crate::command_fault::CommandFault;
 use crate::question::Options;
-use crate::values::{check_zone, is_set, now_of, root_of, shown_in_value, zone_value};
+use crate::values::{check_zone, now_of, root_of, shown_in_value, zone_value};
+use cal_options::{ArgumentFault, is_set};
 use clap::ArgMatches;
 use std::alloc::Global;
 
 /// Returns the options that most verbs share, or the error of the first invalid value. An option that the verb doesn't
 /// have counts as not given.
-pub(crate) fn options_of(alloc: Global, values: &ArgMatches<'_>) -> Result<Options, CommandFault>
+#[tactic(auto, unfolding(crate::specs::rules::Asked::options_for))]
+pub(crate) fn options_of(alloc: Global, values: &ArgMatches<'_>) -> Result<Options, ArgumentFault>
     ensures options { IfOk result (λ options. options_for (rows_of (found_of values.now)) ≡ Ok (shown_options options)) }
     ensures fault { IfErr result (IsFaultIn (options_for (rows_of (found_of values.now)))) }
 {
@@ -27,7 +28,7 @@ pub(crate) fn options_of(alloc: Global, values: &ArgMatches<'_>) -> Result<Optio
         shown_in,
         now,
         root,
-        is_user: is_set(values, USER.name),
-        is_json: is_set(values, JSON.name),
+        is_user: is_set(values, USER),
+        is_json: is_set(values, JSON),
     })
 }

@@ -3,7 +3,8 @@
 //! or the version.
 
 ghost use Rattle.std.specs.Prelude.{◌≡◌, ◌++◌, ◌<◌, ◌&&◌, ◌||◌, IfOk, IfSome, length, map, not};
-ghost use Rattle.cal_timers_command.specs.rules.VerbFirst.{asks_due, asks_help, first_word, is_option, leads, list_first, moved_first, needs_value, verb_first};
+ghost use Rattle.cal_timers_command.specs.rules.VerbFirst.{asks_due, asks_help, first_word, is_option, leads, list_first, moved_first, verb_first};
+ghost use Rattle.cal_timers_command.specs.rules.CommandLine.{needs_value};
 ghost use Rattle.cal_timers_command.specs.rules.Texts.{texts_of};
 
 use crate::arguments::needs_value;

@@ -7,11 +7,11 @@ ghost use Rattle.cal_timers_command.specs.rules.Asked.{IsFaultIn, needed, one_or
 ghost use Rattle.cal_timers_command.specs.rules.Questions.{HasText, IsUsageOf, no_question};
 ghost use Rattle.cal_timers_command.specs.rules.Texts.{texts_of};
 
-use crate::arguments::{ALL, CRON, FIRST, SECOND, STRICT, TARGET};
-use crate::command_fault::CommandFault;
+use crate::arguments::{ALL, ANY_TIMERS, CRON, FROM, ONE_SIDE, ONE_TIMER, OTHER_SIDE, STRICT, TO};
 use crate::question::Question;
-use crate::values::{count_of, is_set, value_of};
+use crate::values::count_of;
 use crate::verb::Verb;
+use cal_options::{Argument, ArgumentFault, is_set, value_of};
 use clap::ArgMatches;
 use std::alloc::{AllocError, Global};
 
@@ -25,7 +25,7 @@ pub(crate) fn question_of(
     alloc: Global,
     verb: Verb,
     values: &ArgMatches<'_>,
-) -> Result<Question, CommandFault>
+) -> Result<Question, ArgumentFault>
     ensures question { IfOk result (λ question. question_for verb (rows_of (found_of values.now)) ≡ Ok (shown_question question)) }
     ensures fault { IfErr result (IsFaultIn (question_for verb (rows_of (found_of values.now)))) }
 {
@@ -41,19 +41,21 @@ pub(crate) fn question_of(
     }
 }
 
-fn list_of(alloc: Global, values: &ArgMatches<'_>) -> Result<Question, CommandFault>
+#[tactic(auto, unfolding(crate::specs::rules::Asked::question_for))]
+fn list_of(alloc: Global, values: &ArgMatches<'_>) -> Result<Question, ArgumentFault>
     ensures question { IfOk result (λ question. question_for List (rows_of (found_of values.now)) ≡ Ok (shown_question question)) }
     ensures fault { IfErr result (IsFaultIn (question_for List (rows_of (found_of values.now)))) }
 {
     let timers = targets_of(alloc, values)?;
     Ok(Question::List {
         timers,
-        is_all: is_set(values, ALL.name),
-        is_cron: is_set(values, CRON.name),
+        is_all: is_set(values, ALL),
+        is_cron: is_set(values, CRON),
     })
 }
 
-fn show_of(alloc: Global, values: &ArgMatches<'_>) -> Result<Question, CommandFault>
+#[tactic(auto, unfolding(crate::specs::rules::Asked::question_for))]
+fn show_of(alloc: Global, values: &ArgMatches<'_>) -> Result<Question, ArgumentFault>
     ensures question { IfOk result (λ question. question_for Show (rows_of (found_of values.now)) ≡ Ok (shown_question question)) }
     ensures fault { IfErr result (IsFaultIn (question_for Show (rows_of (found_of values.now)))) }
 {
@@ -62,44 +64,48 @@ fn show_of(alloc: Global, values: &ArgMatches<'_>) -> Result<Question, CommandFa
     Ok(Question::Show { timers, count })
 }
 
-fn lint_of(alloc: Global, values: &ArgMatches<'_>) -> Result<Question, CommandFault>
+#[tactic(auto, unfolding(crate::specs::rules::Asked::question_for))]
+fn lint_of(alloc: Global, values: &ArgMatches<'_>) -> Result<Question, ArgumentFault>
     ensures question { IfOk result (λ question. question_for Lint (rows_of (found_of values.now)) ≡ Ok (shown_question question)) }
     ensures fault { IfErr result (IsFaultIn (question_for Lint (rows_of (found_of values.now)))) }
 {
     let timers = targets_of(alloc, values)?;
     Ok(Question::Lint {
         timers,
-        is_all: is_set(values, ALL.name),
-        is_strict: is_set(values, STRICT.name),
+        is_all: is_set(values, ALL),
+        is_strict: is_set(values, STRICT),
     })
 }
 
-fn between_of(alloc: Global, values: &ArgMatches<'_>) -> Result<Question, CommandFault>
+#[tactic(auto, unfolding(crate::specs::rules::Asked::question_for))]
+fn between_of(alloc: Global, values: &ArgMatches<'_>) -> Result<Question, ArgumentFault>
     ensures question { IfOk result (λ question. question_for Between (rows_of (found_of values.now)) ≡ Ok (shown_question question)) }
     ensures fault { IfErr result (IsFaultIn (question_for Between (rows_of (found_of values.now)))) }
 {
-    let from = needed_text(alloc, values, FIRST)?;
-    let to = needed_text(alloc, values, SECOND)?;
+    let from = needed_text(alloc, values, FROM)?;
+    let to = needed_text(alloc, values, TO)?;
     let timers = targets_of(alloc, values)?;
     Ok(Question::Between {
         from,
         to,
         timers,
-        is_all: is_set(values, ALL.name),
-        is_cron: is_set(values, CRON.name),
+        is_all: is_set(values, ALL),
+        is_cron: is_set(values, CRON),
     })
 }
 
-fn same_of(alloc: Global, values: &ArgMatches<'_>) -> Result<Question, CommandFault>
+#[tactic(auto, unfolding(crate::specs::rules::Asked::question_for))]
+fn same_of(alloc: Global, values: &ArgMatches<'_>) -> Result<Question, ArgumentFault>
     ensures question { IfOk result (λ question. question_for Same (rows_of (found_of values.now)) ≡ Ok (shown_question question)) }
     ensures fault { IfErr result (IsFaultIn (question_for Same (rows_of (found_of values.now)))) }
 {
-    let one = needed_text(alloc, values, FIRST)?;
-    let other = needed_text(alloc, values, SECOND)?;
+    let one = needed_text(alloc, values, ONE_SIDE)?;
+    let other = needed_text(alloc, values, OTHER_SIDE)?;
     Ok(Question::Same { one, other })
 }
 
-fn next_of(alloc: Global, values: &ArgMatches<'_>) -> Result<Question, CommandFault>
+#[tactic(auto, unfolding(crate::specs::rules::Asked::question_for))]
+fn next_of(alloc: Global, values: &ArgMatches<'_>) -> Result<Question, ArgumentFault>
     ensures question { IfOk result (λ question. question_for Next (rows_of (found_of values.now)) ≡ Ok (shown_question question)) }
     ensures fault { IfErr result (IsFaultIn (question_for Next (rows_of (found_of values.now)))) }
 {
@@ -108,18 +114,20 @@ fn next_of(alloc: Global, values: &ArgMatches<'_>) -> Result<Question, CommandFa
     Ok(Question::Next { expressions, count })
 }
 
-fn due_of(alloc: Global, values: &ArgMatches<'_>) -> Result<Question, CommandFault>
+#[tactic(auto, unfolding(crate::specs::rules::Asked::question_for))]
+fn due_of(alloc: Global, values: &ArgMatches<'_>) -> Result<Question, ArgumentFault>
     ensures question { IfOk result (λ question. question_for Due (rows_of (found_of values.now)) ≡ Ok (shown_question question)) }
     ensures fault { IfErr result (IsFaultIn (question_for Due (rows_of (found_of values.now)))) }
 {
-    let timer = match value_of(values, TARGET) {
+    let timer = match value_of(values, ONE_TIMER) {
         Some(text) => Some(String::from_str(alloc, text)?),
         None => None,
     };
     Ok(Question::Due { timer })
 }
 
-fn cron_of(alloc: Global, values: &ArgMatches<'_>) -> Result<Question, CommandFault>
+#[tactic(auto, unfolding(crate::specs::rules::Asked::question_for))]
+fn cron_of(alloc: Global, values: &ArgMatches<'_>) -> Result<Question, ArgumentFault>
     ensures question { IfOk result (λ question. question_for Cron (rows_of (found_of values.now)) ≡ Ok (shown_question question)) }
     ensures fault { IfErr result (IsFaultIn (question_for Cron (rows_of (found_of values.now)))) }
 {
@@ -128,11 +136,15 @@ fn cron_of(alloc: Global, values: &ArgMatches<'_>) -> Result<Question, CommandFa
 }
 
 /// Returns a copy of a required argument. Fails with [`no_question`] if it isn't given, which `clap` doesn't let happen.
-fn needed_text(alloc: Global, values: &ArgMatches<'_>, name: &str) -> Result<String, CommandFault>
-    ensures text { IfOk result (λ text. needed (first_of name.now (rows_of (found_of values.now))) ≡ Ok (string_bytes text)) }
-    ensures fault { IfErr result (IsFaultIn (needed (first_of name.now (rows_of (found_of values.now))))) }
+fn needed_text(
+    alloc: Global,
+    values: &ArgMatches<'_>,
+    argument: Argument,
+) -> Result<String, ArgumentFault>
+    ensures text { IfOk result (λ text. needed (first_of argument.name.now (rows_of (found_of values.now))) ≡ Ok (string_bytes text)) }
+    ensures fault { IfErr result (IsFaultIn (needed (first_of argument.name.now (rows_of (found_of values.now))))) }
 {
-    match value_of(values, name) {
+    match value_of(values, argument) {
         Some(text) => Ok(String::from_str(alloc, text)?),
         None => Err(no_question(alloc)),
     }
@@ -140,7 +152,7 @@ fn needed_text(alloc: Global, values: &ArgMatches<'_>, name: &str) -> Result<Str
 
 /// Returns copies of the timers, or of the expressions of `next`. Fails with [`no_question`] if there are none, which
 /// `clap` doesn't let happen for the verbs that need one.
-fn needed_targets(alloc: Global, values: &ArgMatches<'_>) -> Result<Vec<String>, CommandFault>
+fn needed_targets(alloc: Global, values: &ArgMatches<'_>) -> Result<Vec<String>, ArgumentFault>
     ensures targets { IfOk result (λ targets. one_or_more (targets_in (rows_of (found_of values.now))) ≡ Ok (map string_bytes targets.items)) }
     ensures fault { IfErr result (IsFaultIn (one_or_more (targets_in (rows_of (found_of values.now))))) }
 {
@@ -155,7 +167,7 @@ fn needed_targets(alloc: Global, values: &ArgMatches<'_>) -> Result<Vec<String>,
 fn targets_of(alloc: Global, values: &ArgMatches<'_>) -> Result<Vec<String>, AllocError>
     ensures { IfOk result (λ targets. map string_bytes targets.items ≡ targets_in (rows_of (found_of values.now))) }
 {
-    match values.get_strs(TARGET) {
+    match values.get_strs(ANY_TIMERS.name) {
         Some(texts) => copies_of(alloc, texts),
         None => Ok(Vec::new(alloc)),
     }
@@ -173,12 +185,12 @@ fn copies_of(alloc: Global, texts: &[&str]) -> Result<Vec<String>, AllocError>
 
 /// Returns the error for arguments that `clap` accepts although they have no verb, or a number of targets that the verb
 /// doesn't accept.
-pub(crate) fn no_question(alloc: Global) -> CommandFault
+pub(crate) fn no_question(alloc: Global) -> ArgumentFault
     ensures text { HasText result }
     ensures usage { IsUsageOf no_question result }
 {
     match String::from_str(alloc, NO_QUESTION) {
-        Ok(text) => CommandFault::Usage(text),
-        Err(_) => CommandFault::NoMemory,
+        Ok(text) => ArgumentFault::Usage(text),
+        Err(_) => ArgumentFault::NoMemory,
     }
 }

@@ -5,7 +5,8 @@ use Rattle.cal_bytes.specs.rules.Bytes.{joined}
 use Rattle.cal_bytes.specs.rules.Writes.{AppendsFront}
 use Rattle.cal_machine.specs.rules.Seen.{Said}
 use Rattle.cal_timers_command.specs.declared.question.Command.{Command}
-use Rattle.cal_timers_command.specs.rules.Asked.{IsCommandOf, IsFaultOf, help, shown_command, usage}
+use Rattle.cal_options.specs.rules.ArgumentFault.{help, usage}
+use Rattle.cal_timers_command.specs.rules.Asked.{IsCommandOf, IsFaultOf, shown_command}
 use Rattle.cal_timers_command.specs.rules.VerbFirst.{asks_due}
 use Rattle.cal_timers_report.specs.declared.style.Style.{Style}
 use Rattle.cal_answers.specs.rules.Output.{IsAnswerOn}

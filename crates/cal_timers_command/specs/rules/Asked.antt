@@ -1,26 +1,26 @@
 -- What the arguments ask, or which error they have.
-use Rattle.std.specs.Prelude.{◌≡◌, ◌≢◌, ◌⊎◌, ◌<◌, ⊤, ℕ, ℤ, Bool, true, false, not, ◌&&◌, List, [], ◌∷◌, Option, None, Some, Result, Ok, Err, codes, if◌then◌else◌, is_some, length, map, unwrap_or, option_map}
-use Rattle.std.specs.List.{list_any}
+use Rattle.std.specs.Prelude.{◌≡◌, ◌⊎◌, ◌<◌, ⊤, ℕ, ℤ, Bool, ◌&&◌, List, [], ◌∷◌, Option, None, Some, Result, Ok, Err, codes, if◌then◌else◌, is_some, length, map, unwrap_or, option_map}
 use Rattle.std.specs.Option.{option_map_or}
 use Rattle.std.specs.String.{string_bytes}
 use Rattle.clap.specs.Words.{Kinds, Row, Text, all_of, fault_of, first_of, subcommand_of}
-use Rattle.clap.specs.declared.error.kind.ErrorKind.{ErrorKind}
-use Rattle.clap.specs.declared.error.kind.ErrorKind.TheVariants.{DisplayHelp, DisplayVersion, OutOfMemory}
 use Rattle.cal_timers_command.specs.declared.question.Command as declared_command
 use Rattle.cal_timers_command.specs.declared.question.Options as declared_options
 use Rattle.cal_timers_command.specs.declared.question.Question as declared_question
 use Rattle.cal_timers_command.specs.declared.question.Question.TheVariants as questions
 use Rattle.cal_timers_command.specs.declared.verb.Verb.{Verb}
 use Rattle.cal_timers_command.specs.declared.verb.Verb.TheVariants as verbs
-use Rattle.cal_timers_command.specs.declared.command_fault.CommandFault.{CommandFault}
-use Rattle.cal_timers_command.specs.declared.command_fault.CommandFault.TheVariants.{Usage, Help, NoMemory}
+use Rattle.cal_options.specs.declared.argument_fault.ArgumentFault.{ArgumentFault}
+use Rattle.cal_options.specs.declared.argument_fault.ArgumentFault.TheVariants.{Usage, Help, NoMemory}
+use Rattle.cal_options.specs.rules.ArgumentFault.{Fault, IsRefusalOf, usage, help, no_memory}
+use Rattle.cal_options.specs.rules.OptionNumbers.{present_in, number_between}
+use Rattle.cal_options.specs.rules.Values.{is_set}
 use Rattle.cal_timers_command.specs.rules.CommandLine.{command_app}
-use Rattle.cal_timers_command.specs.rules.OptionValues.{bad_value, count_in, is_set, is_zone_first, no_value, present_in, text_in, zone_clash}
-use Rattle.cal_timers_command.specs.rules.Questions.{default_count, no_question}
+use Rattle.cal_timers_command.specs.rules.OptionValues.{bad_instant, bad_number, is_zone_first, no_value, text_in, zone_clash}
+use Rattle.cal_timers_command.specs.rules.Questions.{default_count, max_count, no_question}
 use Rattle.cal_timers_command.specs.rules.VerbFirst.{verb_first}
 use Rattle.cal_timers_command.specs.rules.Verbs.{verb_named}
 
--- ## Commands and errors, with each string as the list of its bytes
+-- ## Commands, with each string as the list of its bytes
 
 -- A question, with what its verb needs. A number is the maximum number of elapses. The truth values say whether `--all`
 -- is given, and then whether `--cron` or, of `lint`, `--strict` is. `between` has the start and the end of the range
@@ -49,12 +49,6 @@ pub record Command : Type 0 where
   pub question : Question
   pub options : Options
 
--- invalid arguments, or a request for help or the version, with the text to print; or a failed allocation
-pub data Fault : Type 0 where
-  usage : Text → Fault
-  help : Text → Fault
-  no_memory : Fault
-
 abbrev pub shown_question : declared_question.Question → Question
 shown_question (questions.List timers is_all is_cron) = list (map string_bytes timers.items) is_all is_cron
 shown_question (questions.Show timers count) = show (map string_bytes timers.items) count
@@ -79,11 +73,6 @@ shown_options options = record {
 abbrev pub shown_command : declared_command.Command → Command
 shown_command command = record { question = shown_question command.question; options = shown_options command.options }
 
-abbrev pub shown_fault : CommandFault → Fault
-shown_fault (Usage text) = usage (string_bytes text)
-shown_fault (Help text) = help (string_bytes text)
-shown_fault NoMemory = no_memory
-
 -- ## What the values that `clap` finds ask for
 
 -- the parsed value of an option, or None if the option isn't given; for an invalid value, the error with the message
@@ -97,16 +86,19 @@ abbrev pub then_with : {A B : Type 0} → Result A Fault → (A → Result B Fau
 then_with (Ok value) step = step value
 then_with (Err fault) step = Err fault
 
+-- the value of the option `--name`, which is a number from `least` to `most`, or None if the option isn't given
+unfoldable pub number_value : Text → Text → ℕ → ℕ → List Row → Result (Option ℕ) Fault
+number_value name value_name least most rows =
+    option_value (number_between least most) (bad_number name value_name least most) (first_of name rows)
+
 -- the value of `--count`, or `default_count` if the option isn't given
 unfoldable pub count_value : List Row → Result ℕ Fault
 count_value rows =
-    then_with (option_value count_in (bad_value (codes "count") (codes "N") (codes "expected 1 to 1000000")) (first_of (codes "count") rows))
-    (λ count. Ok (unwrap_or count default_count))
+    then_with (number_value (codes "count") (codes "N") 1 max_count rows) (λ count. Ok (unwrap_or count default_count))
 
 -- the value of `--now` in seconds of Unix time, or None if the option isn't given
 unfoldable pub now_value : List Row → Result (Option ℤ) Fault
-now_value rows =
-    option_value present_in (bad_value (codes "now") (codes "@N") (codes "expected @0 to @7258211998")) (first_of (codes "now") rows)
+now_value rows = option_value present_in (bad_instant (codes "now") (codes "@N")) (first_of (codes "now") rows)
 
 -- the value of the option `--name`, which is any text that isn't empty, or None if the option isn't given
 unfoldable pub text_value : Text → Text → List Row → Result (Option Text) Fault
@@ -211,39 +203,20 @@ answer_in arguments = command_found (subcommand_of command_app (verb_first argum
 abbrev pub HasRead : List Text → Result Command Fault → Type 0
 HasRead arguments answer = (faults_in arguments ≡ []) × (answer_in arguments ≡ answer)
 
--- whether an error of this kind is a request for help or the version
-abbrev pub is_of_help : ErrorKind → Bool
-is_of_help DisplayHelp = true
-is_of_help DisplayVersion = true
-is_of_help _ = false
-
 -- the arguments ask this
 abbrev pub IsCommandOf : List Text → Command → Type 0
 IsCommandOf arguments command = HasRead arguments (Ok command)
-
--- `fault` may be reported if `clap` reports one of the errors `kinds`. Unless `fault` is a failed allocation, its text
--- is written by `clap`: the text isn't empty, and nothing else is known about it.
-abbrev pub IsRefusalOf : Kinds → Fault → Type 0
-IsRefusalOf kinds (usage text) = (list_any (λ kind. not (is_of_help kind)) kinds ≡ true) × (0 < length text)
-IsRefusalOf kinds (help text) = (list_any is_of_help kinds ≡ true) × (0 < length text)
-IsRefusalOf kinds no_memory = ⊤
 
 -- The arguments may result in this error: in a usage error or a help text if `clap` reports such an error, and
 -- otherwise in the error of the first invalid value. Any arguments may result in a failed allocation.
 abbrev pub IsFaultOf : List Text → Fault → Type 0
 IsFaultOf arguments (usage text) =
-    IsRefusalOf (faults_in arguments) (usage text) ⊎ (HasRead arguments (Err (usage text)) × (0 < length text))
-IsFaultOf arguments (help text) = IsRefusalOf (faults_in arguments) (help text)
+    IsRefusalOf command_app (verb_first arguments) (usage text) ⊎ (HasRead arguments (Err (usage text)) × (0 < length text))
+IsFaultOf arguments (help text) = IsRefusalOf command_app (verb_first arguments) (help text)
 IsFaultOf arguments no_memory = ⊤
 
 -- `answer` is the error `fault`, whose text isn't empty, or `fault` is a failed allocation
-abbrev pub IsFaultIn : {A : Type 0} → Result A Fault → CommandFault → Type 0
+abbrev pub IsFaultIn : {A : Type 0} → Result A Fault → ArgumentFault → Type 0
 IsFaultIn answer (Usage text) = (answer ≡ Err (usage (string_bytes text))) × (0 < length (string_bytes text))
 IsFaultIn answer (Help text) = ⊥
 IsFaultIn answer NoMemory = ⊤
-
--- `fault` may be reported if `clap` returns an error of this kind
-abbrev pub IsReportedOf : ErrorKind → Fault → Type 0
-IsReportedOf kind (usage text) = (is_of_help kind ≡ false) × ((kind ≢ OutOfMemory) × (0 < length text))
-IsReportedOf kind (help text) = (is_of_help kind ≡ true) × ((kind ≢ OutOfMemory) × (0 < length text))
-IsReportedOf kind no_memory = ⊤

@@ -4,23 +4,16 @@ use Rattle.std.specs.List.{list_any}
 use Rattle.std.specs.Option.{option_map_or}
 use Rattle.std.specs.Str.{bytes_eq}
 use Rattle.clap.specs.Words.{Text}
+use Rattle.cal_timers_command.specs.rules.CommandLine.{needs_value}
 use Rattle.cal_timers_command.specs.rules.Verbs.{verb_named}
 
 -- the argument is one of these texts
 abbrev pub is_among : List Text → Text → Bool
 is_among texts argument = list_any (λ text. bytes_eq text argument) texts
 
--- the options whose value is the next argument, unless it is joined to the option
-abbrev pub value_options : List Text
-value_options =
-    codes "-n" ∷ codes "--count" ∷ codes "--zone" ∷ codes "--in" ∷ codes "--now" ∷ codes "--root" ∷ []
-
 -- the requests for help and for the version
 abbrev pub help_options : List Text
 help_options = codes "-h" ∷ codes "--help" ∷ codes "-V" ∷ codes "--version" ∷ []
-
-abbrev pub needs_value : Text → Bool
-needs_value = is_among value_options
 
 abbrev pub asks_help : Text → Bool
 asks_help = is_among help_options

@@ -1,24 +1,22 @@
 use Rattle.std.proofs.Common.{◌∙◌, ap, sym}
-use Rattle.clap.specs.Words.{fault_of, is_simple, is_simple_and_free, kind_of, subcommand_of}
-use Rattle.cal_timers_command.specs.rules.Asked.{shown_fault}
-use Rattle.cal_timers_command.specs.rules.CommandLine.{command_app}
+use Rattle.std.proofs.lemmas.Result.{IfOk-weaker}
+use Rattle.clap.specs.Words.{fault_of, is_simple_and_free, subcommand_of}
 use Rattle.cal_timers_command.specs.rules.Texts.{texts_of}
-use Rattle.cal_timers_command.proofs.CommandLemmas.{is_free_command, is_simple_command}
-use Rattle.cal_timers_command.proofs.AskedLemmas.{reported_fault}
+use Rattle.cal_timers_command.proofs.AskedLemmas.{if_err_weaker}
+use Rattle.cal_timers_command.proofs.CommandLemmas.{is_free_command}
 use Rattle.cal_timers_command.proofs.command_line.parse.Goals as goal
 
-pub returns-in-Ok-clause-faults : goal.returns-in-Ok-clause-faults
-returns-in-Ok-clause-faults c =
-    let app = c.in_ok-build_command.ensures in
-    sym (ap (λ a. fault_of a (texts_of c.args.arguments.now)) app) ∙ c.in-Ok.ensures.kinds (ap is_simple_and_free app ∙ is_free_command)
+pub parse-requires : goal.parse-requires
+parse-requires c = ap is_simple_and_free c.in_ok-build_command.ensures ∙ is_free_command
 
-pub returns-in-Ok-clause-found : goal.returns-in-Ok-clause-found
-returns-in-Ok-clause-found c =
-    let app = c.in_ok-build_command.ensures in
-    (c.in-Ok.ensures.matches (ap is_simple app ∙ is_simple_command)).1 ∙ ap (λ a. subcommand_of a (texts_of c.args.arguments.now)) app
+pub returns-clause-faults : goal.returns-clause-faults
+returns-clause-faults c =
+    IfOk-weaker c.parse.result _ _ (λ _ is. sym (ap (λ app. fault_of app (texts_of c.args.arguments.now)) c.in_ok-build_command.ensures) ∙ is) c.parse.ensures.faults
 
-pub returns-in-Err-clause-fault : goal.returns-in-Err-clause-fault
-returns-in-Err-clause-fault c =
-    let app = c.in_ok-build_command.ensures in
-    reported_fault (fault_of command_app (texts_of c.args.arguments.now)) (kind_of c.in-Err.error) (shown_fault c.convert_error.result)
-    (rw (ap (λ a. fault_of a (texts_of c.args.arguments.now)) app) at (c.in-Err.ensures.kinds (ap is_simple_and_free app ∙ is_free_command))) c.convert_error.ensures
+pub returns-clause-found : goal.returns-clause-found
+returns-clause-found c =
+    IfOk-weaker c.parse.result _ _ (λ _ is. is ∙ ap (λ app. subcommand_of app (texts_of c.args.arguments.now)) c.in_ok-build_command.ensures) c.parse.ensures.found
+
+pub returns-clause-fault : goal.returns-clause-fault
+returns-clause-fault c =
+    if_err_weaker c.parse.result _ _ (λ fault is. rw c.in_ok-build_command.ensures at is) c.parse.ensures.refusal
