@@ -2,16 +2,15 @@
 
 ghost use Rattle.std.specs.Prelude.{◌≡◌, ◌≢◌, ◌∷◌, [], IfErr, IfOk, map, option_map, string_bytes};
 ghost use Rattle.cal_machine.specs.rules.Machine.{Machine};
-ghost use Rattle.cal_zone_files.specs.rules.MachineLocalZone.{ByRule, OfMachine, OfName, machine_local_zone};
+ghost use Rattle.cal_zone_files.specs.rules.LocalZone.{machine_local_zone};
 ghost use Rattle.cal_zone.specs.rules.Zone.{zone_of};
+ghost use Rattle.cal_zone.specs.rules.ZoneArgument.{by_rule, of_name};
 ghost use Rattle.cal_answers.specs.rules.LocalClock.{IsLocalZone, clock_zone};
 ghost use Rattle.cal_answers.specs.rules.Unanswerable.{IsUnusable};
 
 use cal_machine::Tree;
-use cal_zone::{Rules, Zone, ZoneFault, ZoneTable};
-use cal_zone_files::{
-    MachineLocalZone, Origin, ZonesFault, find_local_zone, load_machine_zone, load_zones,
-};
+use cal_zone::{Rules, Zone, ZoneArgument, ZoneFault, ZoneTable};
+use cal_zone_files::{Origin, ZonesFault, find_local_zone, load_machine_zone, load_zones};
 use std::alloc::{AllocError, Global};
 
 /// The local zone, or the zone in which times are shown, with the data that its [`Zone`] borrows.
@@ -46,11 +45,13 @@ impl LocalClock {
         ensures grows { (machine : Machine) → T.shows tree.new machine → T.shows tree.old machine }
     {
         match find_local_zone(alloc, tree, option, by_variable) {
-            Ok(MachineLocalZone::Utc) => Ok(LocalClock::Fixed(Zone::utc())),
-            Ok(MachineLocalZone::Offset(seconds)) => Ok(LocalClock::Fixed(Zone::offset(seconds))),
-            Ok(MachineLocalZone::Rule(rule)) => ruled(alloc, rule.as_str()),
-            Ok(MachineLocalZone::Named(name)) => named(alloc, tree, name),
-            Ok(MachineLocalZone::OfMachine) => of_machine(alloc, tree),
+            Ok(Some(ZoneArgument::Utc)) => Ok(LocalClock::Fixed(Zone::utc())),
+            Ok(Some(ZoneArgument::Offset(seconds))) => {
+                Ok(LocalClock::Fixed(Zone::offset(seconds)))
+            }
+            Ok(Some(ZoneArgument::Posix(rule))) => ruled(alloc, rule.as_str()),
+            Ok(Some(ZoneArgument::Name(name))) => named(alloc, tree, name),
+            Ok(None) => of_machine(alloc, tree),
             Err(fault) => Err(fault),
         }
     }
@@ -69,8 +70,10 @@ impl LocalClock {
 }
 
 fn ruled(alloc: Global, rule: &str) -> Result<LocalClock, ZonesFault>
-    ensures zone { IfOk result (λ clock. (machine : Machine) → IsLocalZone machine (ByRule rule.now) (clock_zone clock)) }
-    ensures fault { IfErr result (λ fault. fault ≢ ZonesFault.NoMemory → (machine : Machine) → IsUnusable machine (ByRule rule.now)) }
+    ensures zone { IfOk result (λ clock. (machine : Machine)
+        → IsLocalZone machine (Ok (Some (by_rule rule.now))) (clock_zone clock)) }
+    ensures fault { IfErr result (λ fault. fault ≢ ZonesFault.NoMemory → (machine : Machine)
+        → IsUnusable machine (Ok (Some (by_rule rule.now)))) }
 {
     match Rules::posix(alloc, rule) {
         Ok(rules) => Ok(LocalClock::Ruled(rules)),
@@ -81,9 +84,9 @@ fn ruled(alloc: Global, rule: &str) -> Result<LocalClock, ZonesFault>
 
 fn named<T: Tree>(alloc: Global, tree: &mut T, name: String) -> Result<LocalClock, ZonesFault>
     ensures zone { IfOk result (λ clock. (machine : Machine) → T.shows tree.new machine
-        → IsLocalZone machine (OfName (string_bytes name)) (clock_zone clock)) }
+        → IsLocalZone machine (Ok (Some (of_name (string_bytes name)))) (clock_zone clock)) }
     ensures fault { IfErr result (λ fault. fault ≢ ZonesFault.NoMemory → (machine : Machine) → T.shows tree.new machine
-        → IsUnusable machine (OfName (string_bytes name))) }
+        → IsUnusable machine (Ok (Some (of_name (string_bytes name))))) }
     ensures grows { (machine : Machine) → T.shows tree.new machine → T.shows tree.old machine }
 {
     let names = only(alloc, name.as_str())?;
@@ -94,7 +97,7 @@ fn named<T: Tree>(alloc: Global, tree: &mut T, name: String) -> Result<LocalCloc
 /// Loads the machine's own zone.
 fn of_machine<T: Tree>(alloc: Global, tree: &mut T) -> Result<LocalClock, ZonesFault>
     ensures zone { IfOk result (λ clock. (machine : Machine) → T.shows tree.new machine
-        → IsLocalZone machine OfMachine (clock_zone clock)) }
+        → IsLocalZone machine (Ok None) (clock_zone clock)) }
     ensures fault { IfErr result (λ fault. fault ≡ ZonesFault.NoMemory) }
     ensures grows { (machine : Machine) → T.shows tree.new machine → T.shows tree.old machine }
 {

@@ -210,7 +210,7 @@ fn add_unusable_zone(
         ≡ map shown_candidate found.old.items ++ unusable_zone timer.now files.now zone.now ∷ []) }
 {
     let (path, line) = place_in(timer, files, zone.number);
-    let message = zone_words(alloc, zone.path.as_str(), zone.reason)?;
+    let message = zone_words(alloc, zone.name.as_str(), zone.reason)?;
     push_error(alloc, found, path, line, message.as_str(), Unless::Same)
 }
 

@@ -18,9 +18,6 @@ use Rattle.cal_timer.specs.rules.TimerEntries.{TimerLine}
 use Rattle.cal_timer.specs.rules.TimerView.{shown}
 use Rattle.cal_zone_files.specs.declared.fault.FileReason.{FileReason}
 use Rattle.cal_zone_files.specs.declared.fault.ZonesFault.TheVariants as zone_faults
-use Rattle.cal_zone_files.specs.rules.MachineLocalZone.{zone_folder}
-use Rattle.cal_zone_files.specs.rules.ZoneFiles.{zone_path}
-use Rattle.cal_machine.specs.rules.Prefix.{after_prefix}
 use Rattle.cal_load.specs.declared.fault.TargetLoadFault.{TargetLoadFault}
 use Rattle.cal_load.specs.declared.fault.TargetLoadFault as faults
 use Rattle.cal_load.specs.declared.loaded.Loaded.{Loaded}
@@ -105,11 +102,6 @@ invalid_only Shows texts target error loaded wrong first single =
 
 -- ## Zones
 
--- in the path of a zone file, the zone's name follows the folder of the zone files
-pub zone_of_path : (path zone : List ℕ) → path ≡ zone_path zone → after_prefix zone_folder path ≡ Some zone
-unfolding after_prefix
-zone_of_path path zone e = rw e refl
-
 cond_map : {X Y : Type 0} (f : X → Y) (b : Bool) (x : X) (r : Option X) (s : Option Y) → s ≡ option_map f r
     → cond b (Some (f x)) s ≡ option_map f (cond b (Some x) r)
 cond_map f true x r s e = refl
@@ -149,22 +141,21 @@ zone_found zone (entry ∷ entries) h =
     (sym (list_any-append (bytes_eq zone) (option_to_list (name_in entry.expr.zone)) (zone_names_in entries)) ∙ h)
     (zone_found zone entries)
 
--- if the only error is about a zone file that can't be used, `IsTimerOrReason` holds
-pub zone_only : (Shows : Machine → Type 0) (texts : List (List ℕ)) (entries : List (TimerLine Fields)) (path : String Global) (reason : FileReason) (loaded : Loaded)
-    → AreOf texts entries → ((machine : Machine) → Shows machine → IsZonesError machine (zone_names_in entries) (zone_faults.At path reason))
-    → HasOnlyZoneFault entries path reason loaded → IsTimerOrReason Shows texts loaded
-zone_only Shows texts entries path reason loaded are error h =
+-- if the only error is about a zone whose file can't be used, `IsTimerOrReason` holds
+pub zone_only : (Shows : Machine → Type 0) (texts : List (List ℕ)) (entries : List (TimerLine Fields)) (zone : String Global) (reason : FileReason) (loaded : Loaded)
+    → AreOf texts entries → ((machine : Machine) → Shows machine → IsZonesError machine (zone_names_in entries) (zone_faults.OfZone zone reason))
+    → HasOnlyZoneFault entries zone reason loaded → IsTimerOrReason Shows texts loaded
+zone_only Shows texts entries zone reason loaded are error h =
     let single = h.1 in
     let is_error = single.is_error in
-    let same : ExpressionZone path reason ≡ single.fault.reason = cc in
-    let on_machine : (machine : Machine) → Shows machine → IsUnusableZone machine entries (string_bytes single.fault.target) (string_bytes path) reason = λ machine shows.
+    let same : ExpressionZone zone reason ≡ single.fault.reason = cc in
+    let name = string_bytes zone in
+    let on_machine : (machine : Machine) → Shows machine → IsUnusableZone machine entries (string_bytes single.fault.target) name reason = λ machine shows.
     let found = error machine shows in
-    let has = found.1 in
-    let first = zone_found found.0 entries (list_any-from_Any (bytes_eq found.0) (zone_names_in entries) (has.0, found.0, has.1, has.2, (bytes_eq-Decides found.0 found.0).1 refl)) in
+    let has = found.0 in
+    let first = zone_found name entries (list_any-from_Any (bytes_eq name) (zone_names_in entries) (has.0, name, has.1, has.2, (bytes_eq-Decides name name).1 refl)) in
     record {
-      zone = found.0;
-      has_path = found.2;
-      is_unusable = found.3;
-      is_first = first.1 ∙ ap Some (sym (h.2 found.0 first.0 found.2 first.1) ∙ sym single.named);
+      is_unusable = found.1;
+      is_first = first.1 ∙ ap Some (sym (h.2 first.0 first.1) ∙ sym single.named);
     } in
     (single.masked, inr (single.timers, (single.fault, single.only, subst (IsExpressionReason Shows texts (string_bytes single.fault.target)) same (entries, are, on_machine))))

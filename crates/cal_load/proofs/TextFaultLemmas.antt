@@ -11,7 +11,7 @@ use Rattle.cal_unit_index.specs.rules.Files.{FileRead, UnitText, drop_in_bytes}
 use Rattle.cal_unit_index.specs.rules.Files.FileRead.{Mask, Unusable, Text}
 use Rattle.cal_zone_files.specs.declared.fault.ZonesFault.{ZonesFault}
 use Rattle.cal_zone_files.specs.declared.fault.ZonesFault.TheVariants as zone_faults
-use Rattle.cal_zone_files.specs.rules.ZoneFiles.{IsFirstError, IsLoadError}
+use Rattle.cal_zone_files.specs.rules.ZoneFiles.{IsFirstError, IsLoadError, IsReasonOn}
 use Rattle.cal_load.specs.declared.readable.BrokenLine.{BrokenLine}
 use Rattle.cal_load.specs.declared.fault.TargetLoadFault.{TargetLoadFault}
 use Rattle.cal_load.specs.declared.fault.TargetLoadFault as faults
@@ -66,7 +66,8 @@ error_named : (machine : Machine) (names : List (List ℕ)) (name : List ℕ) (f
     → IsZonesError machine names found
 error_named machine names name (zone_faults.Unclear origin) has h = h
 error_named machine names name (zone_faults.Unread origin) has h = h
-error_named machine names name (zone_faults.At path reason) has h = (name, has, h.0, h.1)
+error_named machine names name (zone_faults.OfZone zone reason) has h =
+    (subst (Contains names) (sym h.0) has, subst (λ name. IsReasonOn machine name reason) (sym h.0) h.1)
 error_named machine names name zone_faults.NoMemory has h = tt
 
 -- the first error in loading zones with these names is an error about one of the names

@@ -7,12 +7,11 @@ use Rattle.std.proofs.lemmas.List.Folds.{list_any-append}
 use Rattle.std.proofs.lemmas.Slice.Eq.{bytes_eq-Decides}
 use Rattle.std.specs.FinMap.{empty}
 use Rattle.std.specs.List.{AllZip, list_any}
-use Rattle.std.specs.Option.{IsSomeAnd, option_to_list}
+use Rattle.std.specs.Option.{option_to_list}
 use Rattle.std.specs.Prelude.{is_some}
 use Rattle.std.specs.Str.{bytes_eq}
 use Rattle.cal_civil.specs.rules.ZoneName.{is_utc_name}
 use Rattle.cal_machine.specs.rules.Machine.{Machine}
-use Rattle.cal_machine.specs.rules.Prefix.{after_prefix}
 use Rattle.cal_spec.specs.rules.Fields.{Fields}
 use Rattle.cal_spec.specs.rules.ZoneSuffix.{name_in}
 use Rattle.cal_timer.specs.declared.timer.TimerLine as declared_line
@@ -20,9 +19,7 @@ use Rattle.cal_timer.specs.rules.TimerEntries.{TimerLine}
 use Rattle.cal_timer.specs.rules.TimerView.{shown}
 use Rattle.cal_unit_index.specs.rules.Files.{UnitText}
 use Rattle.cal_zone.specs.rules.ZoneTable.{ZoneMap, zone_named}
-use Rattle.cal_zone_files.specs.declared.fault.FileReason.{FileReason}
-use Rattle.cal_zone_files.specs.rules.MachineLocalZone.{zone_folder}
-use Rattle.cal_zone_files.specs.rules.ZoneFiles.{HasZonesOf, IsReasonOn, zone_path}
+use Rattle.cal_zone_files.specs.rules.ZoneFiles.{HasZonesOf, IsReasonOn}
 use Rattle.cal_load.specs.declared.calendar.Calendar as calendars
 use Rattle.cal_load.specs.declared.zones.CalendarZones.{CalendarZones}
 use Rattle.cal_load.specs.declared.zones.UnusableZone.{UnusableZone}
@@ -33,7 +30,6 @@ use Rattle.cal_load.specs.rules.Notes.{starts_unit}
 use Rattle.cal_load.specs.rules.TextFaults.{StartNothing}
 use Rattle.cal_load.specs.rules.UnusableZones.{AreUnusableLines, IsUnusableLine, IsUnusableZoneOf, NamesUnusableZone, has_zone, is_zone_in}
 use Rattle.cal_zone_files.proofs.ZoneLemmas.{empty_has, empty_has_none}
-use Rattle.cal_load.proofs.ExpressionLemmas.{zone_of_path}
 
 -- ## Filters
 
@@ -161,12 +157,11 @@ zone_tried machine before entry name old new is same names zones h = record {
 -- `IsTried` still holds after a line whose zone couldn't be loaded, and which was added to the unusable zones
 pub unusable_tried : (machine : Machine) (before : List (TimerLine Fields)) (entry : TimerLine Fields) (name : List ℕ) (old new : CalendarZones) (line : UnusableZone)
     → name_in entry.expr.zone ≡ Some name → new.zones ≡ old.zones → new.unusable.items ≡ old.unusable.items ++ line ∷ [] → line.number ≡ entry.number
-    → is_utc_name name ≡ false → (string_bytes line.path ≡ zone_path name) × IsReasonOn machine name line.reason
+    → is_utc_name name ≡ false → (string_bytes line.name ≡ name) × IsReasonOn machine name line.reason
     → IsTried machine before old → IsTried machine (before ++ entry ∷ []) new
 unusable_tried machine before entry name old new line is zones added number other reason h =
-    let unusable : IsUnusableZoneOf machine entry (string_bytes line.path) line.reason =
-    subst (λ zone. IsSomeAnd zone (λ name. (is_utc_name name ≡ false) × (string_bytes line.path ≡ zone_path name) × IsReasonOn machine name line.reason)) (sym is)
-    (other, reason.0, reason.1) in
+    let unusable : IsUnusableZoneOf machine entry (string_bytes line.name) line.reason =
+    subst (λ name. IsUnusableZoneOf machine entry name line.reason) (sym reason.0) (is, other, reason.1) in
     record {
       names = λ name has.
           ap (λ c. is_utc_name name || c) (named_more before entry name)
@@ -191,11 +186,6 @@ nothing_tried machine tried none no_lines = record {
     known : (utc : Bool) → utc ≡ true → (utc || false) ≡ true
     known utc e = rw e refl
 
-path_zone : (machine : Machine) (zone : Option (List ℕ)) (path : List ℕ) (reason : FileReason)
-    → IsSomeAnd zone (λ name. (is_utc_name name ≡ false) × (path ≡ zone_path name) × IsReasonOn machine name reason) → after_prefix zone_folder path ≡ zone
-path_zone machine None path reason h = absurd h
-path_zone machine (Some name) path reason h = zone_of_path path name h.1
-
 zip_step : (machine : Machine) (c : Bool) (entry : TimerLine Fields) (entries : List (TimerLine Fields)) (line : UnusableZone) (lines : List UnusableZone)
     → IsUnusableLine machine entry line → AllZip (IsUnusableLine machine) entries lines
     → AllZip (IsUnusableLine machine) (cond c (entry ∷ entries) entries) (cond c (line ∷ lines) lines)
@@ -212,7 +202,7 @@ left_lines machine table (entry ∷ entries) lines h =
       | inl kept ↦ rw (kept.0) (left_lines machine table entries lines kept.1)
       | inr left ↦
           let line = left.0 in
-          let same : is_loaded table line ≡ has_zone table entry = ap (is_zone_in table) (path_zone machine (name_in entry.expr.zone) (string_bytes line.path) line.reason left.3.1) in
+          let same : is_loaded table line ≡ has_zone table entry = ap (is_zone_in table) (sym left.3.1.0) in
           rw (left.2, same) (zip_step machine (not (has_zone table entry)) entry _ line _ left.3 (left_lines machine table entries left.1 left.4))
     ]
 
@@ -374,7 +364,7 @@ all_left : (machine : Machine) (keeps : Bool) (entry : TimerLine Fields) (kept r
     → (kept ≡ []) × NamesUnusableZone machine entry × ((others : List UnusableZone) × AllZip (IsUnusableLine machine) rest others)
 all_left machine true entry kept rest lines e h = absurd (cc)
 all_left machine false entry kept rest [] e h = absurd h
-all_left machine false entry kept rest (line ∷ lines) e h = (e, (string_bytes line.path, line.reason, h.0.1), (lines, h.1))
+all_left machine false entry kept rest (line ∷ lines) e h = (e, (string_bytes line.name, line.reason, h.0.1), (lines, h.1))
 
 -- if no expression has a zone in the table, each one names a zone that can't be used
 pub none_usable : (machine : Machine) (table : ZoneMap) (expressions exceptions : List (TimerLine Fields)) (lines : List UnusableZone)

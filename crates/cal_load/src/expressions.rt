@@ -4,7 +4,6 @@ ghost use Rattle.std.specs.Prelude.{◌≡◌, ◌∷◌, ◌++◌, [], ℕ, Lis
 ghost use Rattle.std.specs.Result.{IfErr};
 ghost use Rattle.cal_timer.specs.rules.TimerView.{shown};
 ghost use Rattle.cal_machine.specs.rules.Machine.{Machine};
-ghost use Rattle.cal_zone_files.specs.rules.ZoneFiles.{zone_path};
 ghost use Rattle.cal_load.specs.rules.Loaded.{HasNames, zone_names_in};
 ghost use Rattle.cal_cron.specs.computed.CrontabViews.{time_shown};
 ghost use Rattle.cal_cron.specs.computed.Translation.{exprs_in, shown_exprs};
@@ -157,7 +156,7 @@ fn with_zones<T: Tree>(
 {
     match load_named_zones(alloc, tree, lines.as_slice()) {
         Ok(zones) => only_timer(alloc, expressions.join(alloc, ", ")?, lines, zones),
-        Err(ZonesFault::At(zone, reason)) => only_zone_fault(alloc, lines, zone, reason),
+        Err(ZonesFault::OfZone(zone, reason)) => only_zone_fault(alloc, lines, zone, reason),
         // Of the other errors, only the one for running out of memory can occur. The rest are about the local zone,
         // which isn't looked up here.
         Err(_) => Err(AllocError),
@@ -186,8 +185,8 @@ fn only_timer(
     Ok(loaded)
 }
 
-/// Returns a result without timers, with an error for the first line that names the zone whose file is at the path
-/// `zone`.
+/// Returns a result without timers, with an error for the first line that names the zone, whose file can't be used for
+/// this reason.
 fn only_zone_fault(
     alloc: Global,
     lines: Vec<TimerLine>,
@@ -201,12 +200,12 @@ fn only_zone_fault(
     only_fault(alloc, target.as_str(), fault)
 }
 
-/// Returns the text of the first line that names the zone whose file is at `path`, or an empty text if no line does.
-fn first_text(alloc: Global, lines: &[TimerLine], path: &str) -> Result<String, AllocError>
-    ensures { IfOk result (λ found. (zone text : List ℕ) → path.now ≡ zone_path zone
-        → first_with_zone zone (map shown lines.now) ≡ Some text → string_bytes found ≡ text) }
+/// Returns the text of the first line that names the zone, or an empty text if no line does.
+fn first_text(alloc: Global, lines: &[TimerLine], zone: &str) -> Result<String, AllocError>
+    ensures { IfOk result (λ found. (text : List ℕ)
+        → first_with_zone zone.now (map shown lines.now) ≡ Some text → string_bytes found ≡ text) }
 {
-    match first_with_zone(lines, path) {
+    match first_with_zone(lines, zone) {
         Some(line) => String::from_str(alloc, line.text.as_str()),
         None => Ok(String::new(alloc)),
     }

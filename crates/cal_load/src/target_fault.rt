@@ -32,7 +32,7 @@ pub enum TargetReason {
     /// The entry of a crontab, which was given instead of a timer, is invalid. The error is [`CronFault::Reboot`] for
     /// `@reboot`, which has no calendar time.
     CrontabEntry(CronFault),
-    /// The expression, which was given instead of a timer, names a zone whose file at this path can't be used, for
+    /// The expression, which was given instead of a timer, names the zone with this name, whose file can't be used, for
     /// this reason.
     ExpressionZone(String, FileReason),
 }

@@ -1,11 +1,11 @@
 //! The zones that the expressions of a timer name.
 
-ghost use Rattle.std.specs.Prelude.{◌≡◌, ◌∷◌, ◌++◌, [], ℕ, List, IfOk, OnOk, filter, map, not, option_copied, string_bytes};
+ghost use Rattle.std.specs.Prelude.{◌≡◌, ◌∷◌, ◌++◌, [], List, IfOk, OnOk, filter, map, not, option_copied, string_bytes};
 ghost use Rattle.std.specs.List.{find};
 ghost use Rattle.std.specs.Option.{option_to_list};
 ghost use Rattle.std.specs.Result.{IfErr};
 ghost use Rattle.cal_spec.specs.rules.Fields.{Fields};
-ghost use Rattle.cal_zone_files.specs.rules.ZoneFiles.{HasZonesOf, zone_path};
+ghost use Rattle.cal_zone_files.specs.rules.ZoneFiles.{HasZonesOf};
 ghost use Rattle.cal_timer.specs.rules.TimerEntries.{TimerLine as Entry};
 ghost use Rattle.cal_timer.specs.rules.TimerView.{shown};
 ghost use Rattle.cal_machine.specs.rules.Machine.{Machine};
@@ -16,7 +16,7 @@ ghost use Rattle.cal_load.specs.rules.TextFaults.{IsZonesError};
 ghost use Rattle.cal_load.specs.rules.UnusableZones.{has_zone};
 
 use crate::calendar::Calendar;
-use cal_machine::{Tree, after_prefix};
+use cal_machine::Tree;
 use cal_timer::TimerLine;
 use cal_zone::ZoneTable;
 use cal_zone_files::{FileReason, ZonesFault, load_zone, load_zones};
@@ -27,8 +27,8 @@ use std::alloc::{AllocError, Global};
 pub struct UnusableZone {
     /// The number of the line. Line numbers continue from file to file.
     pub number: u32,
-    /// The path of the zone file.
-    pub path: String,
+    /// The name of the zone.
+    pub name: String,
     /// Why the zone file can't be used.
     pub reason: FileReason,
 }
@@ -40,9 +40,6 @@ pub(crate) struct CalendarZones {
     /// First the lines with expressions, and then those with exceptions, each in order.
     pub(crate) unusable: Vec<UnusableZone>,
 }
-
-/// The folder of the zone files, from which [`load_zones`] reads them.
-const ZONE_FOLDER: &str = "/usr/share/zoneinfo/";
 
 /// Loads the zones that a calendar names, one by one. As in systemd, a line whose zone can't be used is ignored: it is
 /// removed from the calendar, and the other lines stay. Fails only if allocation fails.
@@ -105,10 +102,10 @@ fn try_zone<T: Tree>(
     let number = line.number;
     match load_zone(alloc, tree, &mut found.zones, name) {
         Ok(()) => Ok(()),
-        Err(ZonesFault::At(path, reason)) => {
+        Err(ZonesFault::OfZone(name, reason)) => {
             found.unusable.push(UnusableZone {
                 number,
-                path,
+                name,
                 reason,
             })?;
             Ok(())
@@ -146,10 +143,7 @@ fn retain_unloaded(unusable: &mut Vec<UnusableZone>, zones: &ZoneTable)
 fn is_loaded(zones: &ZoneTable, line: &UnusableZone) -> bool
     ensures { result ≡ is_loaded zones.now line.now }
 {
-    match after_prefix(ZONE_FOLDER, line.path.as_str()) {
-        Some(name) => zones.find(name).is_some(),
-        None => true,
-    }
+    zones.find(line.name.as_str()).is_some()
 }
 
 /// Loads the zones that these lines name. Fails if one of them can't be loaded.
@@ -199,19 +193,8 @@ fn push_zone_name(
     Ok(())
 }
 
-/// Returns the first line that names the zone whose file is at `path`.
-pub(crate) fn first_with_zone<'l>(lines: &'l [TimerLine], path: &str) -> Option<&'l TimerLine>
-    ensures { (zone : List ℕ) → path.now ≡ zone_path zone
-        → option_copied result ≡ find (λ line. names_zone zone (shown line)) lines.now }
-{
-    match after_prefix(ZONE_FOLDER, path) {
-        Some(zone) => first_named(lines, zone),
-        None => None,
-    }
-}
-
 /// Returns the first line that names this zone.
-fn first_named<'l>(lines: &'l [TimerLine], zone: &str) -> Option<&'l TimerLine>
+pub(crate) fn first_with_zone<'l>(lines: &'l [TimerLine], zone: &str) -> Option<&'l TimerLine>
     ensures { option_copied result ≡ find (λ line. names_zone zone.now (shown line)) lines.now }
 {
     lines.iter().find(|line| is_named(line, zone))

@@ -1,11 +1,11 @@
 //! Error lines about timers that can't be loaded, about lines that are ignored, and about a zone that can't be used.
 
-ghost use Rattle.std.specs.Prelude.{◌≡◌, ◌<◌, ◌^◌, ◌++◌, IfOk, OnOk, string_bytes};
+ghost use Rattle.std.specs.Prelude.{◌≡◌, ◌<◌, ◌^◌, ◌++◌, IfOk, OnOk, codes, string_bytes};
 ghost use Rattle.std.specs.Option.{option_map};
 ghost use Rattle.cal_cron.specs.rules.CronMessages as cron_messages;
 ghost use Rattle.cal_spec.specs.rules.SpecFault.{message_of};
 ghost use Rattle.cal_timers_text.specs.rules.ErrorLines.{broken_line, content_line, fault_line, idle_line, ignored_line, not_found_words, origin_name, place_text, position_text, reason_words, subject_line, unread_words, unusable_zone_line, zones_line};
-ghost use Rattle.cal_timers_text.specs.rules.Messages.{abbreviation_hint, broken_drop_in_message, broken_file_message, broken_words, zone_message};
+ghost use Rattle.cal_timers_text.specs.rules.Messages.{abbreviation_hint, broken_drop_in_message, broken_file_message, broken_words, zone_message, zone_path_text};
 ghost use Rattle.cal_zone_files.specs.declared.fault.FileReason.TheVariants.{NotFound};
 
 use cal_cron::CronFault;
@@ -14,10 +14,10 @@ use cal_load::{
     BrokenLine, BrokenReason, IgnoredLine, LoadedTimer, TargetFault, TargetReason, TimerFiles,
     UnusableZone,
 };
-use cal_machine::{Unreadable, after_prefix};
+use cal_machine::Unreadable;
 use cal_timers_report::push_printable;
 use cal_unit_index::Reason;
-use cal_zone_files::{FileReason, Origin, ZonesFault};
+use cal_zone_files::{FileReason, Origin, ZONE_FOLDER, ZonesFault};
 use std::alloc::{AllocError, Global};
 
 /// The message about a timer without a setting that starts its unit.
@@ -26,9 +26,6 @@ pub const NOTHING_TO_DO: &str = "no setting starts its unit";
 /// What is added to the message about a zone without a file if the zone's name looks like an abbreviation.
 const ABBREVIATION_HINT: &str =
     "; an abbreviation stands for a single offset: write the name of a zone, such as Europe/Berlin";
-
-/// The folder of the zone files. A zone file's path is this text followed by the zone's name.
-const ZONE_FOLDER: &str = "/usr/share/zoneinfo/";
 
 /// Returns the error line about a timer that can't be loaded, without a line feed. The line begins with what is at
 /// fault, and ends with the message. What is at fault is the target as it was given, a path, or a line of a file.
@@ -115,11 +112,11 @@ pub fn unusable_zone_text(
     let mut out = String::new(alloc);
     push_place(&mut out, timer.name.as_str(), &timer.files, zone.number)?;
     out.push_str("ignored: ")?;
-    push_zone_fault(&mut out, zone.path.as_str(), zone.reason)?;
+    push_zone_fault(&mut out, zone.name.as_str(), zone.reason)?;
     Ok(out)
 }
 
-/// Returns the message about a zone file that can't be used for this reason. `zone` is the path of the file.
+/// Returns the message about the file of the zone with this name, which can't be used for this reason.
 pub fn zone_words(alloc: Global, zone: &str, reason: FileReason) -> Result<String, AllocError>
     ensures { IfOk result (λ message. string_bytes message ≡ zone_message zone.now reason) }
 {
@@ -191,7 +188,7 @@ fn push_zones_fault(out: &mut String, fault: &ZonesFault) -> Result<(), AllocErr
     match fault {
         ZonesFault::Unclear(origin) => push_fault(out, origin_name(*origin), "not a zone"),
         ZonesFault::Unread(origin) => push_fault(out, origin_name(*origin), "cannot be read"),
-        ZonesFault::At(zone, reason) => push_zone_fault(out, zone.as_str(), *reason),
+        ZonesFault::OfZone(zone, reason) => push_zone_fault(out, zone.as_str(), *reason),
         ZonesFault::NoMemory => out.push_str("out of memory"),
     }
 }
@@ -293,10 +290,10 @@ fn push_unusable_zone(
     files: &TimerFiles,
     zone: &UnusableZone,
 ) -> Result<(), AllocError>
-    ensures { OnOk result (string_bytes out.new ≡ string_bytes out.old ++ (place_text timer.now files.now zone.now.number ++ zone_message (string_bytes zone.now.path) zone.now.reason)) }
+    ensures { OnOk result (string_bytes out.new ≡ string_bytes out.old ++ (place_text timer.now files.now zone.now.number ++ zone_message (string_bytes zone.now.name) zone.now.reason)) }
 {
     push_place(out, timer, files, zone.number)?;
-    push_zone_fault(out, zone.path.as_str(), zone.reason)
+    push_zone_fault(out, zone.name.as_str(), zone.reason)
 }
 
 /// Appends `PATH:LINE: `: the path of the file that has the line with this continued number, and the line's number in
@@ -338,35 +335,52 @@ fn push_expression_zone(
     push_zone_fault(out, zone, reason)
 }
 
-/// Appends the message about a zone file that can't be used for this reason. `zone` is the path of the file.
-#[tactic(auto, unfolding(crate::specs::rules::Messages::zone_message, crate::specs::rules::ErrorLines::subject_line))]
+/// Appends the message about the file of the zone with this name, which can't be used for this reason.
+#[tactic(auto, unfolding(crate::specs::rules::Messages::zone_message))]
 fn push_zone_fault(out: &mut String, zone: &str, reason: FileReason) -> Result<(), AllocError>
     ensures { OnOk result (string_bytes out.new ≡ string_bytes out.old ++ zone_message zone.now reason) }
 {
     match reason {
         FileReason::NotFound => push_no_zone(out, zone),
-        FileReason::Load(fault) => push_fault(out, zone, fault.words()),
+        FileReason::Load(fault) => push_unloaded(out, zone, fault.words()),
     }
 }
 
-/// Appends the message about a zone file that doesn't exist. `zone` is the path of the file. If the name of the zone
-/// looks like an abbreviation, such as `CEST`, the message goes on with a hint.
+/// Appends the message about the file of the zone with this name, which doesn't exist. If the name looks like an
+/// abbreviation, such as `CEST`, the message goes on with a hint.
 #[tactic(auto, unfolding(crate::specs::rules::Messages::zone_message))]
 fn push_no_zone(out: &mut String, zone: &str) -> Result<(), AllocError>
     ensures { OnOk result (string_bytes out.new ≡ string_bytes out.old ++ zone_message zone.now NotFound) }
 {
     out.push_str("no zone file ")?;
-    push_printable(out, zone)?;
-    push_hint(out, after_prefix(ZONE_FOLDER, zone))
+    push_zone_path(out, zone)?;
+    push_hint(out, zone)
+}
+
+fn push_unloaded(out: &mut String, zone: &str, message: &str) -> Result<(), AllocError>
+    ensures { OnOk result (string_bytes out.new
+        ≡ string_bytes out.old ++ (zone_path_text zone.now ++ (codes ": " ++ message.now))) }
+{
+    push_zone_path(out, zone)?;
+    out.push_str(": ")?;
+    out.push_str(message)
+}
+
+/// Appends the path of the file of the zone with this name.
+fn push_zone_path(out: &mut String, zone: &str) -> Result<(), AllocError>
+    ensures { OnOk result (string_bytes out.new ≡ string_bytes out.old ++ zone_path_text zone.now) }
+{
+    out.push_str(ZONE_FOLDER)?;
+    push_printable(out, zone)
 }
 
 /// Appends the hint if the zone's name looks like an abbreviation.
-fn push_hint(out: &mut String, name: Option<&str>) -> Result<(), AllocError>
-    ensures { OnOk result (string_bytes out.new
-        ≡ string_bytes out.old ++ abbreviation_hint (option_map (λ name. name.now) name.entry)) }
+fn push_hint(out: &mut String, name: &str) -> Result<(), AllocError>
+    ensures { OnOk result (string_bytes out.new ≡ string_bytes out.old ++ abbreviation_hint name.now) }
 {
-    match name {
-        Some(name) if looks_like_abbreviation(name) => out.push_str(ABBREVIATION_HINT),
-        _ => Ok(()),
+    if looks_like_abbreviation(name) {
+        out.push_str(ABBREVIATION_HINT)
+    } else {
+        Ok(())
     }
 }

@@ -24,12 +24,12 @@ use Rattle.cal_zone_files.specs.declared.fault.FileReason.TheVariants as reasons
 use Rattle.cal_zone.specs.rules.AddedZones.{is_taken}
 use Rattle.cal_zone.specs.rules.ZoneTable.{ZoneMap, zone_named}
 use Rattle.cal_zone.proofs.ZoneMapLemmas.{zone_named-here, zone_named-elsewhere}
-use Rattle.cal_zone_files.specs.rules.ZoneFiles.{HasZone, HasZonesOf, IsFirstError, IsLoadError, IsMachineZone, IsReasonOn, IsZoneAdded, IsZoneIn, IsZoneOn, bytes_in, rejection, zone_file, zone_path}
-use Rattle.cal_zone_files.specs.rules.MachineLocalZone.{IsResultOf, MachineLocalZone, localtime, unread_fault}
-use Rattle.cal_zone_files.specs.rules.MachineLocalZone.MachineLocalZone.{UnreadIn}
+use Rattle.cal_zone_files.specs.rules.ZoneFiles.{HasZone, HasZonesOf, IsFirstError, IsLoadError, IsMachineZone, IsReasonOn, IsZoneAdded, IsZoneIn, IsZoneOn, bytes_in, rejection, zone_file}
+use Rattle.cal_zone_files.specs.rules.LocalZone.{IsResultOf, LocalZone, localtime, unread_fault}
 use Rattle.cal_zone_files.specs.declared.fault.FileReason.{FileReason}
 use Rattle.cal_zone_files.specs.declared.fault.Origin.{Origin}
 use Rattle.cal_zone_files.specs.declared.fault.ZonesFault.{ZonesFault}
+use Rattle.cal_zone_files.specs.declared.fault.ZonesFault.TheVariants as faults
 
 -- every table has the name UTC, so a name that a table doesn't have isn't UTC
 pub free_is_other : (table : ZoneMap) (name : List ℕ) → is_taken table name ≡ false → is_utc_name name ≡ false
@@ -74,19 +74,19 @@ rejected_on : (machine : Machine) (name bytes : List ℕ) (fault : ZoneFault) �
     → fault ≢ zones.NoMemory → IsFileFault name bytes fault → IsReasonOn machine name (reasons.Load (loads.Zone fault))
 rejected_on machine name bytes fault read other rejected = rw read (other, rejected)
 
-pub rejection_on : (machine : Machine) (name bytes : List ℕ) (path : String Global) (fault : ZoneFault) → string_bytes path ≡ zone_path name
-    → zone_file machine name ≡ Ok bytes → IsFileFault name bytes fault → IsLoadError machine name (rejection path fault)
-rejection_on machine name bytes path zones.NoMemory same read rejected = tt
-rejection_on machine name bytes path zones.BadName same read rejected = (same, rejected_on machine name bytes zones.BadName read (λ e. cc) rejected)
-rejection_on machine name bytes path zones.BadRule same read rejected = absurd rejected
-rejection_on machine name bytes path zones.BadFile same read rejected = (same, rejected_on machine name bytes zones.BadFile read (λ e. cc) rejected)
-rejection_on machine name bytes path zones.TooLarge same read rejected = (same, rejected_on machine name bytes zones.TooLarge read (λ e. cc) rejected)
-rejection_on machine name bytes path zones.NameTaken same read rejected = absurd rejected
+pub rejection_on : (machine : Machine) (name bytes : List ℕ) (text : String Global) (fault : ZoneFault) → string_bytes text ≡ name
+    → zone_file machine name ≡ Ok bytes → IsFileFault name bytes fault → IsLoadError machine name (rejection text fault)
+rejection_on machine name bytes text zones.NoMemory same read rejected = tt
+rejection_on machine name bytes text zones.BadName same read rejected = (same, rejected_on machine name bytes zones.BadName read (λ e. cc) rejected)
+rejection_on machine name bytes text zones.BadRule same read rejected = absurd rejected
+rejection_on machine name bytes text zones.BadFile same read rejected = (same, rejected_on machine name bytes zones.BadFile read (λ e. cc) rejected)
+rejection_on machine name bytes text zones.TooLarge same read rejected = (same, rejected_on machine name bytes zones.TooLarge read (λ e. cc) rejected)
+rejection_on machine name bytes text zones.NameTaken same read rejected = absurd rejected
 
--- if an origin can't be read, so that the zone is `UnreadIn` this origin, then the error that is returned,
--- `unread_fault`, agrees with this zone (`IsResultOf`)
-pub unread_is : {X Y : Type 0} (view : X → Y) (zone_of : Result Y Unreadable → MachineLocalZone) (origin : Origin)
-    → ((why : Unreadable) → zone_of (Err why) ≡ UnreadIn origin) → (fault : trees.TreeFault) (answer : Result Y Unreadable)
+-- if an origin can't be read, so that `zone_of` is the error `Unread` for this origin, then the error that is returned,
+-- `unread_fault`, agrees with this (`IsResultOf`)
+pub unread_is : {X Y : Type 0} (view : X → Y) (zone_of : Result Y Unreadable → LocalZone) (origin : Origin)
+    → ((why : Unreadable) → zone_of (Err why) ≡ Err (faults.Unread origin)) → (fault : trees.TreeFault) (answer : Result Y Unreadable)
     → Tells view (Err fault) answer → IsResultOf (zone_of answer) (Err (unread_fault origin fault))
 unread_is view zone_of origin unread (trees.TheVariants.Unreadable why) answer known = ap zone_of known ∙ unread why
 unread_is view zone_of origin unread trees.TheVariants.NoMemory answer known = tt

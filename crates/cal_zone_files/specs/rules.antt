@@ -1,3 +1,3 @@
 -- What the manuals and this project's own rules say. The contracts of this crate cite these definitions.
-pub mod MachineLocalZone
+pub mod LocalZone
 pub mod ZoneFiles

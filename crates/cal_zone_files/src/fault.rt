@@ -31,8 +31,9 @@ pub enum ZonesFault {
     Unclear(Origin),
     /// The text of this option or variable can't be read, or is not UTF-8. This happens only for the variable.
     Unread(Origin),
-    /// The zone file at this path can't be used, for this reason.
-    At(String, FileReason),
+    /// The file of the zone with this name can't be used, for this reason. The file's path is
+    /// [`ZONE_FOLDER`](crate::ZONE_FOLDER) followed by the name.
+    OfZone(String, FileReason),
     /// Out of memory.
     NoMemory,
 }

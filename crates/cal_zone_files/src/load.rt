@@ -11,15 +11,20 @@ ghost use Rattle.cal_zone.specs.rules.ZoneTable.{zone_named};
 ghost use Rattle.cal_zone_files.specs.rules.ZoneFiles.{HasZonesOf, IsFirstError, IsLoadError, IsMachineZone, IsZoneAdded, IsZoneIn, IsZoneOn, bytes_in, rejection, shown_file, zone_path};
 
 use crate::fault::{FileReason, ZonesFault};
-use crate::texts::LOCALTIME;
 use cal_machine::{Content, Tree, TreeFault, read_at};
 use cal_zone::{LoadFault, Rules, ZoneFault, ZoneName, ZoneTable};
 use std::alloc::{AllocError, Global};
 
+/// The folder of the zone files. A zone file's path is this text followed by the zone's name.
+pub const ZONE_FOLDER: &str = "/usr/share/zoneinfo/";
+
+/// The path that leads to the file of the machine's zone (localtime(5)).
+pub(crate) const LOCALTIME: &str = "/etc/localtime";
+
 /// Returns a table with UTC and with the zones of these names, each loaded from its file `/usr/share/zoneinfo/NAME`
 /// (RFC 8536). The name `UTC`, ignoring case, needs no file, and a name may be repeated.
 ///
-/// Fails with [`ZonesFault::At`] and the path of the first file that can't be used. The reason is
+/// Fails with [`ZonesFault::OfZone`] and the first name whose file can't be used. The reason is
 ///
 /// - [`FileReason::NotFound`] if nothing is there;
 /// - [`FileReason::Load`] with [`LoadFault::ReadFailed`] if a folder is there, or if the path can't be followed or
@@ -52,8 +57,8 @@ pub fn load_zones<T: Tree>(
 /// Loads the zone of this name into the table, unless the table already has it. The zone is loaded from its file
 /// `/usr/share/zoneinfo/NAME` (RFC 8536). The name `UTC`, ignoring case, needs no file.
 ///
-/// Fails with [`ZonesFault::At`] and the path of the file if the file can't be used, for the same reasons as in
-/// [`load_zones`], and with [`ZonesFault::NoMemory`] if allocation fails. On failure the table is unchanged.
+/// Fails with [`ZonesFault::OfZone`] and the name if the file can't be used, for the same reasons as in [`load_zones`],
+/// and with [`ZonesFault::NoMemory`] if allocation fails. On failure the table is unchanged.
 pub fn load_zone<T: Tree>(
     alloc: Global,
     tree: &mut T,
@@ -121,17 +126,17 @@ fn add_zone<T: Tree>(
     let path = zone_path(alloc, name)?;
     let bytes = match zone_file(alloc, tree, path.as_str())? {
         Ok(bytes) => bytes,
-        Err(reason) => return Err(ZonesFault::At(path, reason)),
+        Err(reason) => return Err(ZonesFault::OfZone(String::from_str(alloc, name)?, reason)),
     };
     match add_file(alloc, table, name, bytes.as_slice()) {
         Ok(()) => Ok(()),
-        Err(fault) => Err(rejection(path, fault)),
+        Err(fault) => Err(rejection(String::from_str(alloc, name)?, fault)),
     }
 }
 
-/// Returns the error for the zone file at this path, which was rejected with `fault`.
-fn rejection(path: String, fault: ZoneFault) -> ZonesFault
-    ensures { result ≡ rejection path fault }
+/// Returns the error for the zone with this name, whose file was rejected with `fault`.
+fn rejection(name: String, fault: ZoneFault) -> ZonesFault
+    ensures { result ≡ rejection name fault }
 {
     match fault {
         ZoneFault::NoMemory => ZonesFault::NoMemory,
@@ -139,7 +144,9 @@ fn rejection(path: String, fault: ZoneFault) -> ZonesFault
         | ZoneFault::BadRule
         | ZoneFault::BadFile
         | ZoneFault::TooLarge
-        | ZoneFault::NameTaken => ZonesFault::At(path, FileReason::Load(LoadFault::Zone(fault))),
+        | ZoneFault::NameTaken => {
+            ZonesFault::OfZone(name, FileReason::Load(LoadFault::Zone(fault)))
+        }
     }
 }
 
@@ -183,5 +190,5 @@ fn add_file(alloc: Global, table: &mut ZoneTable, name: &str, bytes: &[u8]) -> R
 fn zone_path(alloc: Global, name: &str) -> Result<String, AllocError>
     ensures { IfOk result (λ path. string_bytes path ≡ zone_path name.now) }
 {
-    format!(in alloc; "/usr/share/zoneinfo/{name}")
+    format!(in alloc; "{ZONE_FOLDER}{name}")
 }

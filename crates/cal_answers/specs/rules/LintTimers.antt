@@ -51,7 +51,7 @@ ignored_line timer files ignored =
 abbrev pub unusable_zone : List ℕ → TimerFiles → UnusableZone → Candidate
 unusable_zone timer files zone =
     let place = place_in timer files zone.number in
-    in_line Error place.0 place.1 (zone_message (string_bytes zone.path) zone.reason) Same
+    in_line Error place.0 place.1 (zone_message (string_bytes zone.name) zone.reason) Same
 
 abbrev pub ignored_setting : List ℕ → TimerFiles → IgnoredSetting → Candidate
 ignored_setting timer files setting =

@@ -1,7 +1,7 @@
 -- The local zone of a question and the zone in which its answer shows times, as zones of `jiff`. Without `--zone`, the
 -- expressions of units are in the machine's zone, and those of `next` in the zone of `TZ`, as in
 -- `systemd-analyze calendar`. `cal_zone_files` defines which zones these are.
-use Rattle.std.specs.Prelude.{◌≡◌, ℕ, Bool, true, false, List, Option, None, Some, option_map, string_bytes}
+use Rattle.std.specs.Prelude.{◌≡◌, ℕ, Bool, true, false, List, Option, None, Some, Ok, Err, option_map, string_bytes}
 use Rattle.std.specs.Option.{option_or, unwrap_or}
 use Rattle.jiff.specs.Placed.{IsPosixZone}
 use Rattle.jiff.specs.Types.{TimeZone, UTC}
@@ -11,10 +11,11 @@ use Rattle.cal_timers_command.specs.declared.question.Command.{Command}
 use Rattle.cal_timers_command.specs.declared.question.Options.{Options}
 use Rattle.cal_timers_command.specs.declared.question.Question.{Question}
 use Rattle.cal_timers_command.specs.declared.question.Question.TheVariants as questions
-use Rattle.cal_zone_files.specs.rules.MachineLocalZone.{MachineLocalZone, InUtc, Ahead, ByRule, OfName, OfMachine, UnclearIn, UnreadIn, machine_local_zone}
+use Rattle.cal_zone_files.specs.rules.LocalZone.{LocalZone, machine_local_zone}
 use Rattle.cal_zone_files.specs.rules.ZoneFiles.{IsMachineZone, IsZoneOn}
 use Rattle.cal_zone.specs.rules.FixedOffsetZone.{fixed_offset_zone}
 use Rattle.cal_zone.specs.rules.Zone.{zone_of}
+use Rattle.cal_zone.specs.rules.ZoneArgument.{ZoneArgument, in_utc, at_offset, by_rule, of_name}
 use Rattle.cal_zone.specs.rules.ZoneTable.{zone_named}
 use Rattle.cal_answers.specs.declared.local_clock.LocalClock.{LocalClock}
 use Rattle.cal_answers.specs.declared.local_clock.LocalClock.TheVariants.{Fixed, Ruled, Named, Assumed}
@@ -24,19 +25,22 @@ abbrev pub IsZoneNamed : Machine → List ℕ → Bool → TimeZone → Type 0
 IsZoneNamed machine name true zone = zone ≡ UTC
 IsZoneNamed machine name false zone = IsZoneOn machine name zone
 
+-- whether `zone`, a zone of `jiff`, is the zone that an option or `TZ` names
+abbrev pub IsZoneGiven : Machine → ZoneArgument → TimeZone → Type 0
+IsZoneGiven machine in_utc zone = zone ≡ UTC
+IsZoneGiven machine (at_offset seconds) zone = zone ≡ fixed_offset_zone seconds
+IsZoneGiven machine (by_rule rule) zone = IsPosixZone rule zone
+IsZoneGiven machine (of_name name) zone = IsZoneNamed machine name (is_utc_name name) zone
+
 -- Whether `zone`, a zone of `jiff`, is this local zone. The machine's own zone is UTC if /etc/localtime doesn't lead to
 -- a zone file. If the local zone is unclear or can't be read, this holds for no zone.
-abbrev pub IsThisZone : Machine → MachineLocalZone → TimeZone → Type 0
-IsThisZone machine InUtc zone = zone ≡ UTC
-IsThisZone machine (Ahead seconds) zone = zone ≡ fixed_offset_zone seconds
-IsThisZone machine (ByRule rule) zone = IsPosixZone rule zone
-IsThisZone machine (OfName name) zone = IsZoneNamed machine name (is_utc_name name) zone
-IsThisZone machine OfMachine zone = (found : Option TimeZone) × IsMachineZone machine found × (zone ≡ unwrap_or found UTC)
-IsThisZone machine (UnclearIn origin) zone = ⊥
-IsThisZone machine (UnreadIn origin) zone = ⊥
+abbrev pub IsThisZone : Machine → LocalZone → TimeZone → Type 0
+IsThisZone machine (Ok (Some given)) zone = IsZoneGiven machine given zone
+IsThisZone machine (Ok None) zone = (found : Option TimeZone) × IsMachineZone machine found × (zone ≡ unwrap_or found UTC)
+IsThisZone machine (Err fault) zone = ⊥
 
 -- whether there is a zone, and it is this local zone
-abbrev pub IsLocalZone : Machine → MachineLocalZone → Option TimeZone → Type 0
+abbrev pub IsLocalZone : Machine → LocalZone → Option TimeZone → Type 0
 IsLocalZone machine local None = ⊥
 IsLocalZone machine local (Some zone) = IsThisZone machine local zone
 
@@ -72,7 +76,7 @@ shows_times (questions.Cron given) = false
 
 -- the zone of expressions that name no zone: `--zone` if it is given, or else, for `next`, `TZ` if it is set, or else
 -- the machine's own zone
-abbrev pub local_zone_of : Machine → Command → MachineLocalZone
+abbrev pub local_zone_of : Machine → Command → LocalZone
 local_zone_of machine command =
     machine_local_zone machine (option_map string_bytes command.options.zone) (is_next command.question)
 
@@ -82,5 +86,5 @@ shown_option options = option_or (option_map string_bytes options.shown_in) (opt
 
 -- the zone in which times are shown: that of `--in` or `--zone`, or else that of `TZ`, or else the machine's own;
 -- `lint` and `cron` show no times, so `TZ` is ignored for them
-abbrev pub shown_zone_of : Machine → Command → MachineLocalZone
+abbrev pub shown_zone_of : Machine → Command → LocalZone
 shown_zone_of machine command = machine_local_zone machine (shown_option command.options) (shows_times command.question)

@@ -1,29 +1,31 @@
 -- Why `read_question` can't answer a question: there is no present, no root or no search path, or a zone can't be used.
-use Rattle.std.specs.Prelude.{◌≡◌, ◌≢◌, ◌⊎◌, ⊤, ℕ, ℤ, false, List, [], Option, None, codes, string_bytes}
+use Rattle.std.specs.Prelude.{◌≡◌, ◌≢◌, ◌⊎◌, ⊤, ℕ, ℤ, false, List, [], Option, None, Some, Ok, Err, codes, string_bytes}
 use Rattle.std.specs.Option.{option_or}
 use Rattle.jiff.specs.Words.{read_whole}
 use Rattle.cal_machine.specs.rules.Machine.{Machine}
 use Rattle.cal_timers_command.specs.declared.question.Command.{Command}
 use Rattle.cal_zone_files.specs.declared.fault.FileReason.{FileReason}
-use Rattle.cal_zone_files.specs.rules.MachineLocalZone.{MachineLocalZone}
-use Rattle.cal_zone_files.specs.rules.MachineLocalZone.MachineLocalZone.{InUtc, Ahead, ByRule, OfName, OfMachine, UnclearIn, UnreadIn}
+use Rattle.cal_zone.specs.rules.ZoneArgument.{ZoneArgument, in_utc, at_offset, by_rule, of_name}
+use Rattle.cal_zone_files.specs.rules.LocalZone.{LocalZone}
 use Rattle.cal_zone_files.specs.rules.ZoneFiles.{IsReasonOn}
 use Rattle.cal_load.specs.rules.LoadedTarget.{is_folder}
 use Rattle.cal_answers.specs.rules.LocalClock.{local_zone_of, shown_zone_of}
 use Rattle.cal_answers.specs.rules.MachinePath.{machine_path}
 use Rattle.cal_answers.specs.rules.Present.{IsPresent}
 
--- A zone can't be used if its rule isn't valid, if the file for its name can't be used, or if the option or `TZ` is
--- unclear or can't be read. The machine's own zone can be used even if /etc/localtime doesn't lead to a zone file: it
--- is UTC then.
-abbrev pub IsUnusable : Machine → MachineLocalZone → Type 0
-IsUnusable machine InUtc = ⊥
-IsUnusable machine (Ahead seconds) = ⊥
-IsUnusable machine (ByRule rule) = read_whole rule ≡ None
-IsUnusable machine (OfName name) = (reason : FileReason) × IsReasonOn machine name reason
-IsUnusable machine OfMachine = ⊥
-IsUnusable machine (UnclearIn origin) = ⊤
-IsUnusable machine (UnreadIn origin) = ⊤
+-- a zone that is given can't be used if its rule isn't valid, or if the file for its name can't be used
+abbrev pub IsUnusableGiven : Machine → ZoneArgument → Type 0
+IsUnusableGiven machine in_utc = ⊥
+IsUnusableGiven machine (at_offset seconds) = ⊥
+IsUnusableGiven machine (by_rule rule) = read_whole rule ≡ None
+IsUnusableGiven machine (of_name name) = (reason : FileReason) × IsReasonOn machine name reason
+
+-- The local zone can't be used if an option or `TZ` gives a zone that can't be used, or is unclear or can't be read.
+-- The machine's own zone can be used even if /etc/localtime doesn't lead to a zone file: it is UTC then.
+abbrev pub IsUnusable : Machine → LocalZone → Type 0
+IsUnusable machine (Ok (Some given)) = IsUnusableGiven machine given
+IsUnusable machine (Ok None) = ⊥
+IsUnusable machine (Err fault) = ⊤
 
 -- neither the command nor the clock states a present, or the stated second isn't an instant
 abbrev pub HasNoPresent : Command → Option ℤ → Type 0

@@ -19,7 +19,7 @@ use Rattle.cal_timer.specs.rules.TimerEntries.{TimerLine}
 use Rattle.cal_machine.specs.rules.Machine.{Machine}
 use Rattle.cal_zone.specs.rules.ZoneTable.{ZoneMap}
 use Rattle.cal_zone_files.specs.declared.fault.FileReason.{FileReason}
-use Rattle.cal_zone_files.specs.rules.ZoneFiles.{IsReasonOn, zone_path}
+use Rattle.cal_zone_files.specs.rules.ZoneFiles.{IsReasonOn}
 use Rattle.cal_load.specs.rules.CalendarZones.{exceptions_in, expressions_in}
 use Rattle.cal_load.specs.rules.Loaded.{HasZones}
 use Rattle.cal_load.specs.declared.fault.TargetLoadFault.{TargetLoadFault}
@@ -108,17 +108,14 @@ names_zone zone entry = list_any (bytes_eq zone) (option_to_list (name_in entry.
 abbrev pub first_with_zone : List ℕ → List (TimerLine Fields) → Option (List ℕ)
 first_with_zone zone entries = option_map (λ entry. entry.text) (find (names_zone zone) entries)
 
--- the zone file at this path can't be used for this reason, and `target` is the text of the first entry that names its
--- zone
-pub record IsUnusableZone (machine : Machine) (entries : List (TimerLine Fields)) (target path : List ℕ) (reason : FileReason) : Type 0 where
-  pub zone : List ℕ
-  pub has_path : path ≡ zone_path zone
+-- the file of this zone can't be used for this reason, and `target` is the text of the first entry that names the zone
+pub record IsUnusableZone (machine : Machine) (entries : List (TimerLine Fields)) (target zone : List ℕ) (reason : FileReason) : Type 0 where
   pub is_unusable : IsReasonOn machine zone reason
   pub is_first : first_with_zone zone entries ≡ Some target
 
 -- Why these texts don't make a timer: `target` is the first of them that is invalid, and `fault` is the error of
--- parsing it as an expression or as an entry. Or all of them are valid, the zone file at `path` can't be used, and
--- `target` is the first that names its zone. `Shows` holds for the machines that agree with what the tree returned.
+-- parsing it as an expression or as an entry. Or all of them are valid, the file of `zone` can't be used, and `target`
+-- is the first that names this zone. `Shows` holds for the machines that agree with what the tree returned.
 abbrev pub IsExpressionReason : (Machine → Type 0) → List (List ℕ) → List ℕ → TargetReason → Type 0
 IsExpressionReason Shows texts target NotFound = ⊥
 IsExpressionReason Shows texts target Template = ⊥
@@ -130,9 +127,9 @@ IsExpressionReason Shows texts target (Expression fault) =
     (first_invalid texts ≡ Some target) × (expressions_for target ≡ Err (NotExpression fault))
 IsExpressionReason Shows texts target (CrontabEntry fault) =
     (first_invalid texts ≡ Some target) × (expressions_for target ≡ Err (NotEntry fault))
-IsExpressionReason Shows texts target (ExpressionZone path reason) =
+IsExpressionReason Shows texts target (ExpressionZone zone reason) =
     (entries : List (TimerLine Fields)) × AreOf texts entries
-    × ((machine : Machine) → Shows machine → IsUnusableZone machine entries target (string_bytes path) reason)
+    × ((machine : Machine) → Shows machine → IsUnusableZone machine entries target (string_bytes zone) reason)
 
 -- ## Results
 
@@ -176,9 +173,9 @@ pub record HasOnlyFault (target : List ℕ) (error : TargetLoadFault) (loaded : 
   pub named : string_bytes fault.target ≡ target
   pub is_error : error ≡ faults.TheVariants.Target fault.reason
 
--- nothing was loaded, and the only error is about the zone file at this path; its target is the text of the first entry
--- that names the zone, if an entry does
+-- nothing was loaded, and the only error is about the file of this zone; its target is the text of the first entry that
+-- names the zone, if an entry does
 abbrev pub HasOnlyZoneFault : List (TimerLine Fields) → String Global → FileReason → Loaded → Type 0
-HasOnlyZoneFault entries path reason loaded =
-    (target : List ℕ) × HasOnlyFault target (faults.TheVariants.Target (ExpressionZone path reason)) loaded
-    × ((zone text : List ℕ) → string_bytes path ≡ zone_path zone → first_with_zone zone entries ≡ Some text → target ≡ text)
+HasOnlyZoneFault entries zone reason loaded =
+    (target : List ℕ) × HasOnlyFault target (faults.TheVariants.Target (ExpressionZone zone reason)) loaded
+    × ((text : List ℕ) → first_with_zone (string_bytes zone) entries ≡ Some text → target ≡ text)

@@ -6,8 +6,6 @@ use Rattle.std.specs.Str.{bytes_eq}
 use Rattle.std.specs.Str.Lines.{lines}
 use Rattle.cal_civil.specs.rules.ZoneName.{is_utc_name}
 use Rattle.cal_unit_index.specs.rules.DropIns.{drop_ins}
-use Rattle.cal_machine.specs.rules.Prefix.{after_prefix}
-use Rattle.cal_zone_files.specs.rules.MachineLocalZone.{zone_folder}
 use Rattle.cal_zone_files.specs.rules.ZoneFiles.{HasZonesOf}
 use Rattle.cal_spec.specs.computed.Expr.{expr_in}
 use Rattle.cal_spec.specs.declared.spec_fault.SpecFault.{SpecFault}
@@ -35,7 +33,7 @@ use Rattle.cal_load.specs.rules.Notes.{note_text, notes_in, starts_unit}
 use Rattle.cal_load.specs.rules.Position.{AreFirstLines, HasLine}
 use Rattle.cal_load.specs.rules.Readable.{assignments_read, broken_line}
 use Rattle.cal_load.specs.rules.Resolved.{resolved_in, unclear_in}
-use Rattle.cal_load.specs.rules.UnusableZones.{AreUnusableLines, IsUnusableLine, has_zone, is_zone_in}
+use Rattle.cal_load.specs.rules.UnusableZones.{AreUnusableLines, IsUnusableLine, has_zone}
 use Rattle.cal_load.specs.declared.zones.CalendarZones.{CalendarZones}
 use Rattle.cal_load.specs.declared.zones.UnusableZone.{UnusableZone}
 use Rattle.cal_load.specs.declared.readable.BrokenLine.{BrokenLine}
@@ -237,9 +235,9 @@ AreTried machine table (entry ∷ entries) lines =
     ⊎ ((line : UnusableZone) × (rest : List UnusableZone) × (lines ≡ line ∷ rest) × IsUnusableLine machine entry line
     × AreTried machine table entries rest)
 
--- whether the table has the zone of the zone file at the line's path
+-- whether the table has the zone whose name the line has
 abbrev pub is_loaded : ZoneMap → UnusableZone → Bool
-is_loaded table line = is_zone_in table (after_prefix zone_folder (string_bytes line.path))
+is_loaded table line = is_some (zone_named table (string_bytes line.name))
 
 -- The zones that the entries name were loaded into the table, as they are in the machine's zone files, and no other
 -- zones. The unusable zones are those of lines whose zone couldn't be loaded.

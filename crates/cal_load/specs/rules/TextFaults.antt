@@ -7,7 +7,7 @@ use Rattle.cal_unit_index.specs.rules.Files.{UnitText}
 use Rattle.cal_zone.specs.rules.ZoneTable.{ZoneMap}
 use Rattle.cal_zone_files.specs.declared.fault.ZonesFault.{ZonesFault}
 use Rattle.cal_zone_files.specs.declared.fault.ZonesFault.TheVariants as zone_faults
-use Rattle.cal_zone_files.specs.rules.ZoneFiles.{HasZonesOf, IsReasonOn, zone_path}
+use Rattle.cal_zone_files.specs.rules.ZoneFiles.{HasZonesOf, IsReasonOn}
 use Rattle.cal_load.specs.declared.readable.BrokenLine.{BrokenLine}
 use Rattle.cal_load.specs.declared.fault.TargetLoadFault.{TargetLoadFault}
 use Rattle.cal_load.specs.declared.fault.TargetLoadFault as faults
@@ -75,8 +75,8 @@ HasNothingToDo machine name files read =
 abbrev pub IsZonesError : Machine → List (List ℕ) → ZonesFault → Type 0
 IsZonesError machine names (zone_faults.Unclear origin) = ⊥
 IsZonesError machine names (zone_faults.Unread origin) = ⊥
-IsZonesError machine names (zone_faults.At path reason) =
-    (name : List ℕ) × Contains names name × (string_bytes path ≡ zone_path name) × IsReasonOn machine name reason
+IsZonesError machine names (zone_faults.OfZone name reason) =
+    Contains names (string_bytes name) × IsReasonOn machine (string_bytes name) reason
 IsZonesError machine names zone_faults.NoMemory = ⊤
 
 -- ## All errors of files

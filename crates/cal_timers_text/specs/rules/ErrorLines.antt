@@ -24,7 +24,7 @@ use Rattle.cal_unit_index.specs.declared.files.UnitText.{UnitText}
 use Rattle.cal_zone_files.specs.declared.fault.Origin.{Origin}
 use Rattle.cal_zone_files.specs.declared.fault.Origin.TheVariants.{Argument, Variable}
 use Rattle.cal_zone_files.specs.declared.fault.ZonesFault.{ZonesFault}
-use Rattle.cal_zone_files.specs.declared.fault.ZonesFault.TheVariants.{Unclear, Unread, At, NoMemory}
+use Rattle.cal_zone_files.specs.declared.fault.ZonesFault.TheVariants.{Unclear, Unread, OfZone, NoMemory}
 
 -- ## Lines
 
@@ -95,7 +95,7 @@ unread_words fault = unread_target (string_bytes fault.target) fault.reason
 abbrev pub idle_zone_line : List ℕ → TimerFiles → List UnusableZone → List ℕ
 idle_zone_line timer files [] = subject_line timer nothing_to_do
 idle_zone_line timer files (zone ∷ zones) =
-    place_text timer files zone.number ++ zone_message (string_bytes zone.path) zone.reason
+    place_text timer files zone.number ++ zone_message (string_bytes zone.name) zone.reason
 
 -- the line about a timer whose unit nothing starts: it is about the first line that is ignored as invalid, or else
 -- about the first one whose zone can't be used, or else about the timer
@@ -134,7 +134,7 @@ ignored_line timer ignored =
 unfoldable pub unusable_zone_line : LoadedTimer → UnusableZone → List ℕ
 unusable_zone_line timer zone =
     place_text (string_bytes timer.name) timer.files zone.number
-    ++ (codes "ignored: " ++ zone_message (string_bytes zone.path) zone.reason)
+    ++ (codes "ignored: " ++ zone_message (string_bytes zone.name) zone.reason)
 
 -- the error line about a drop-in, with the number of the line at which systemd stops reading it
 unfoldable pub broken_line : LoadedTimer → BrokenLine → List ℕ
@@ -152,5 +152,5 @@ origin_name Variable = codes "TZ"
 unfoldable pub zones_line : ZonesFault → List ℕ
 zones_line (Unclear origin) = subject_line (origin_name origin) (codes "not a zone")
 zones_line (Unread origin) = subject_line (origin_name origin) (codes "cannot be read")
-zones_line (At path reason) = zone_message (string_bytes path) reason
+zones_line (OfZone name reason) = zone_message (string_bytes name) reason
 zones_line NoMemory = codes "out of memory"

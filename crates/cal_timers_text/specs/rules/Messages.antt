@@ -17,7 +17,6 @@ use Rattle.cal_load.specs.declared.ignored.WhyIgnored.{WhyIgnored}
 use Rattle.cal_load.specs.declared.ignored.WhyIgnored.TheVariants.{BadValue, OwnName, SecondUnit}
 use Rattle.cal_load.specs.declared.readable.BrokenReason.{BrokenReason}
 use Rattle.cal_load.specs.declared.readable.BrokenReason.TheVariants as broken
-use Rattle.cal_machine.specs.rules.Prefix.{after_prefix}
 use Rattle.cal_timer.specs.declared.keys.KeyKind.{KeyKind}
 use Rattle.cal_timer.specs.declared.keys.KeyKind.TheVariants.{SpanTrigger, ChangeTrigger, CalendarTrigger, Exception, TimingBoolean, OtherBoolean, Delay, Accuracy, StartedUnit}
 use Rattle.cal_tasks.specs.declared.idle.IdleKind.{IdleKind}
@@ -30,7 +29,7 @@ use Rattle.cal_timers_text.specs.rules.FlawWords.{flaw_words}
 use Rattle.cal_zone.specs.rules.LoadFault as load
 use Rattle.cal_zone_files.specs.declared.fault.FileReason.{FileReason}
 use Rattle.cal_zone_files.specs.declared.fault.FileReason.TheVariants.{NotFound, Load}
-use Rattle.cal_zone_files.specs.rules.MachineLocalZone.{zone_folder}
+use Rattle.cal_zone_files.specs.rules.LocalZone.{zone_folder}
 
 -- ## Settings
 
@@ -162,14 +161,16 @@ unfoldable pub broken_drop_in_message : BrokenReason → List ℕ
 broken_drop_in_message reason = broken_words reason ++ codes ", so the drop-in is ignored from this line on"
 
 -- what follows the message about a zone without a file if the zone's name looks like an abbreviation
-abbrev pub abbreviation_hint : Option (List ℕ) → List ℕ
-abbreviation_hint None = []
-abbreviation_hint (Some name) =
+abbrev pub abbreviation_hint : List ℕ → List ℕ
+abbreviation_hint name =
     if looks_like_abbreviation name
     then codes "; an abbreviation stands for a single offset: write the name of a zone, such as Europe/Berlin" else []
 
--- the message about a zone file that can't be used for this reason; `path` is the path of the file, and the name of the
--- zone is what follows the folder of the zone files
+-- how the path of the file of the zone with this name is printed
+abbrev pub zone_path_text : List ℕ → List ℕ
+zone_path_text name = zone_folder ++ printable_text name
+
+-- the message about the file of the zone with this name, which can't be used for this reason
 unfoldable pub zone_message : List ℕ → FileReason → List ℕ
-zone_message path NotFound = codes "no zone file " ++ (printable_text path ++ abbreviation_hint (after_prefix zone_folder path))
-zone_message path (Load fault) = printable_text path ++ (codes ": " ++ load.message_of fault)
+zone_message name NotFound = codes "no zone file " ++ (zone_path_text name ++ abbreviation_hint name)
+zone_message name (Load fault) = zone_path_text name ++ (codes ": " ++ load.message_of fault)

@@ -15,7 +15,7 @@ use Rattle.cal_zone.specs.rules.ZoneTable.{ZoneMap, zone_named}
 use Rattle.cal_zone.specs.declared.zone_fault.ZoneFault.{ZoneFault}
 use Rattle.cal_zone.specs.declared.zone_fault.ZoneFault.TheVariants as zones
 use Rattle.cal_zone.specs.declared.zone_files.LoadFault.TheVariants as loads
-use Rattle.cal_zone_files.specs.rules.MachineLocalZone.{localtime, zone_folder}
+use Rattle.cal_zone_files.specs.rules.LocalZone.{localtime, zone_folder}
 use Rattle.cal_zone_files.specs.declared.fault.FileReason.{FileReason}
 use Rattle.cal_zone_files.specs.declared.fault.FileReason.TheVariants as reasons
 use Rattle.cal_zone_files.specs.declared.fault.ZonesFault.{ZonesFault}
@@ -86,7 +86,7 @@ IsMachineZone machine zone =
 abbrev pub IsLoadError : Machine → List ℕ → ZonesFault → Type 0
 IsLoadError machine name (faults.Unclear origin) = ⊥
 IsLoadError machine name (faults.Unread origin) = ⊥
-IsLoadError machine name (faults.At path reason) = (string_bytes path ≡ zone_path name) × IsReasonOn machine name reason
+IsLoadError machine name (faults.OfZone zone reason) = (string_bytes zone ≡ name) × IsReasonOn machine name reason
 IsLoadError machine name faults.NoMemory = ⊤
 
 -- whether the error is about the name at this index, and the files for all names before it, except UTC, are valid zone
@@ -99,11 +99,11 @@ pub record IsFirstError (machine : Machine) (names : List (List ℕ)) (fault : Z
   pub is_error : IsLoadError machine name fault
   pub earlier : (other : List ℕ) → list_any (bytes_eq other) (take index names) ≡ true → is_utc_name other ≡ false → HasZone machine other
 
--- the error for the zone file at this path, which was rejected with `fault`
+-- the error for the zone with this name, whose file was rejected with `fault`
 abbrev pub rejection : String Global → ZoneFault → ZonesFault
-rejection path zones.NoMemory = faults.NoMemory
-rejection path zones.BadName = faults.At path (reasons.Load (loads.Zone zones.BadName))
-rejection path zones.BadRule = faults.At path (reasons.Load (loads.Zone zones.BadRule))
-rejection path zones.BadFile = faults.At path (reasons.Load (loads.Zone zones.BadFile))
-rejection path zones.TooLarge = faults.At path (reasons.Load (loads.Zone zones.TooLarge))
-rejection path zones.NameTaken = faults.At path (reasons.Load (loads.Zone zones.NameTaken))
+rejection name zones.NoMemory = faults.NoMemory
+rejection name zones.BadName = faults.OfZone name (reasons.Load (loads.Zone zones.BadName))
+rejection name zones.BadRule = faults.OfZone name (reasons.Load (loads.Zone zones.BadRule))
+rejection name zones.BadFile = faults.OfZone name (reasons.Load (loads.Zone zones.BadFile))
+rejection name zones.TooLarge = faults.OfZone name (reasons.Load (loads.Zone zones.TooLarge))
+rejection name zones.NameTaken = faults.OfZone name (reasons.Load (loads.Zone zones.NameTaken))

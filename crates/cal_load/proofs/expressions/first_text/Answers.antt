@@ -7,14 +7,14 @@ use Rattle.cal_load.proofs.expressions.first_text.Goals as goal
 
 pub returns-in-Some : goal.returns-in-Some
 returns-in-Some c =
-    IfOk-weaker c.from_str.result _ _ (λ found is zone text e first.
+    IfOk-weaker c.from_str.result _ _ (λ found is text first.
     is ∙ c.as_str.ensures.value
     ∙ same_Some _ _ (ap (option_map (λ line. string_bytes line.now.text)) (sym c.in-Some.is)
-    ∙ text_found zone text c.args.lines.now c.first_with_zone.result (c.first_with_zone.ensures zone e) first))
+    ∙ text_found c.args.zone.now text c.args.lines.now c.first_with_zone.result c.first_with_zone.ensures first))
     c.from_str.ensures.ok
 
 pub returns-in-None : goal.returns-in-None
-returns-in-None c zone text e first =
+returns-in-None c text first =
     let none = ap (option_map (λ line. string_bytes line.now.text)) (sym c.in-None.is)
-    ∙ text_found zone text c.args.lines.now c.first_with_zone.result (c.first_with_zone.ensures zone e) first in
+    ∙ text_found c.args.zone.now text c.args.lines.now c.first_with_zone.result c.first_with_zone.ensures first in
     absurd (cc)

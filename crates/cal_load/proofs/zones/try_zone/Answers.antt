@@ -17,10 +17,10 @@ returns-in-Ok-clause-tried g c machine before shows tried =
     let named : name_in c.args.line.now.expr.zone ≡ Some c.in-Some.name.now = sym c.zone_name.ensures ∙ ap option_copied c.in-Some.is in
     zone_tried machine before (shown c.args.line.now) c.in-Some.name.now c.args.found.now _ named refl c.in-Ok.ensures.names (c.in-Ok.ensures.zones machine shows) tried
 
-pub returns-in_ok-push-in-Err-At-clause-tried : goal.returns-in_ok-push-in-Err-At-clause-tried
-returns-in_ok-push-in-Err-At-clause-tried g c machine before shows tried =
+pub returns-in_ok-push-in-Err-OfZone-clause-tried : goal.returns-in_ok-push-in-Err-OfZone-clause-tried
+returns-in_ok-push-in-Err-OfZone-clause-tried g c machine before shows tried =
     let named : name_in c.args.line.now.expr.zone ≡ Some c.in-Some.name.now = sym c.zone_name.ensures ∙ ap option_copied c.in-Some.is in
-    let other = free_is_other c.args.found.now.zones c.in-Some.name.now c.in-Err-At.ensures.missing in
-    let reason = subst (IsLoadError machine c.in-Some.name.now) c.in-Err-At.field-0-is (c.in-Err-At.ensures.fault machine shows) in
-    unusable_tried machine before (shown c.args.line.now) c.in-Some.name.now c.args.found.now _ _ named c.in-Err-At.ensures.unchanged c.in_ok-push-in-Err-At.ensures.items refl
+    let other = free_is_other c.args.found.now.zones c.in-Some.name.now c.in-Err-OfZone.ensures.missing in
+    let reason = subst (IsLoadError machine c.in-Some.name.now) c.in-Err-OfZone.field-0-is (c.in-Err-OfZone.ensures.fault machine shows) in
+    unusable_tried machine before (shown c.args.line.now) c.in-Some.name.now c.args.found.now _ _ named c.in-Err-OfZone.ensures.unchanged c.in_ok-push-in-Err-OfZone.ensures.items refl
     other reason tried

@@ -20,12 +20,12 @@ returns-in-Ok-add_file-clause-added g c =
       added = a.added;
     }
 
-pub returns-in-Err-add_file-clause-fault : goal.returns-in-Err-add_file-clause-fault
-returns-in-Err-add_file-clause-fault g c =
+pub returns-clause-fault : goal.returns-clause-fault
+returns-clause-fault g c =
     λ machine shows.
     let read : zone_file machine c.args.name.now ≡ Ok c.in-Ok.bytes.items =
     ap (λ path. bytes_in (content_at machine path)) (sym (c.as_str.ensures.value ∙ c.in_ok-path.ensures))
     ∙ c.in_ok-bytes.ensures.known machine shows ∙ ap shown_file c.in-Ok.is in
     subst (IsLoadError machine c.args.name.now) (sym c.rejection.ensures)
-    (rejection_on machine c.args.name.now c.in-Ok.bytes.items c.in_ok-path.path c.in-Err-add_file.fault c.in_ok-path.ensures read
+    (rejection_on machine c.args.name.now c.in-Ok.bytes.items c.in_ok-from_str-in-Err-add_file.field-0 c.in-Err-add_file.fault c.in_ok-from_str-in-Err-add_file.ensures.ok read
     (subst (λ bytes. IsFileFault c.args.name.now bytes c.in-Err-add_file.fault) c.as_slice.ensures.value c.in-Err-add_file.ensures.fault))
