@@ -10,7 +10,7 @@ use Rattle.cal_crontabs.specs.declared.crontabs.Crontabs.{Crontabs}
 use Rattle.cal_load.specs.declared.files.LoadedFiles.{LoadedFiles}
 use Rattle.cal_load.specs.declared.loaded.Loaded.{Loaded}
 use Rattle.cal_timers_report.specs.declared.style.Style.{Style}
-use Rattle.cal_answers.specs.declared.answer.Asked.{Asked}
+use Rattle.cal_answers.specs.declared.answer.Context.{Context}
 use Rattle.cal_answers.specs.declared.candidates.Unless.{Unless}
 use Rattle.cal_answers.specs.declared.candidates.Unless.TheVariants.{Same, ErrorInLine, ProblemInLine}
 use Rattle.cal_answers.specs.rules.LintCandidates.{Candidate, candidate_row, candidate_text, has_in_line, has_in_line_of, has_text, is_left_out, with_candidate, with_candidates}
@@ -76,10 +76,10 @@ status_if false false false warnings E W has_e has_w = (
   ],
 )
 
-pub fails_if : (asked : Asked) (is_strict : Bool) (machine : Machine) (path : List (List ℕ)) (files : LoadedFiles) (loaded : Loaded) (crontabs : Crontabs) (out err : List ℕ) (status : ℕ) (is : IsLint asked is_strict machine path files loaded crontabs out err status)
-    → (status ≡ 1) ↔ IsFailure is_strict (has_lines err) (all_problems asked machine path loaded is.found)
-fails_if asked is_strict machine path files loaded crontabs out err status is =
-    let listed = all_problems asked machine path loaded is.found in
+pub fails_if : (context : Context) (is_strict : Bool) (machine : Machine) (path : List (List ℕ)) (files : LoadedFiles) (loaded : Loaded) (crontabs : Crontabs) (out err : List ℕ) (status : ℕ) (is : IsLint context is_strict machine path files loaded crontabs out err status)
+    → (status ≡ 1) ↔ IsFailure is_strict (has_lines err) (all_problems context machine path loaded is.found)
+fails_if context is_strict machine path files loaded crontabs out err status is =
+    let listed = all_problems context machine path loaded is.found in
     subst (λ (n : ℕ). IsOne n ↔ IsFailure is_strict (has_lines err) listed) (sym is.ends)
     (status_if (has_lines err) (nat_lt 0 (lint_counts listed).errors) is_strict (nat_lt 0 (lint_counts listed).warnings) (HasError listed) (HasWarning listed) (errors_if listed) (warnings_if listed))
 

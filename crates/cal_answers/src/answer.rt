@@ -6,7 +6,7 @@ ghost use Rattle.std.specs.Str.{bytes_eq};
 ghost use Rattle.cal_zone.specs.rules.Zone.{zone_of};
 ghost use Rattle.cal_answers.specs.rules.LocalClock.{clock_zone};
 ghost use Rattle.cal_answers.specs.rules.ErrorText.{broken_line_if, broken_lines, fault_lines, ignored_lines, lines_about, loaded_lines, masked_lines, text_of, with_line, with_lines};
-ghost use Rattle.cal_answers.specs.rules.Output.{HasLoadedLines, IsAnswerAsked, IsAnswerToFound, IsAnswerToKnown, IsAskedBy, IsVerbAnswer};
+ghost use Rattle.cal_answers.specs.rules.Output.{HasLoadedLines, IsAnswerIn, IsAnswerToFound, IsAnswerToKnown, IsContextOf, IsVerbAnswer};
 ghost use Rattle.cal_answers.specs.rules.Printed.{IsStopped, printed_of, status_by, with_errors, with_notes};
 ghost use Rattle.cal_answers.specs.rules.Remarks.{with_remarks};
 ghost use Rattle.cal_timers_text.specs.rules.ErrorLines.{broken_line, fault_line, ignored_line, unusable_zone_line};
@@ -22,7 +22,7 @@ use crate::range_zones::RangeZones;
 use crate::remarks::{with_empty_folders, with_verb_hint, with_zone_note};
 use crate::timers::{list, show};
 use cal_load::{BrokenLine, IgnoredLine, Loaded, LoadedTimer, TargetFault, UnusableZone};
-use cal_tasks::{Clocked, UnguardedTimer};
+use cal_tasks::{Present, UnguardedTimer};
 use cal_timers_command::Options;
 use cal_timers_report::Style;
 use cal_timers_text::{broken_text, fault_text, ignored_text, unusable_zone_text};
@@ -52,12 +52,12 @@ pub(crate) struct Answer {
 
 /// What all verbs need to know: the present, the zones, and options.
 #[derive(Clone, Copy)]
-pub(crate) struct Asked<'a> {
+pub(crate) struct Context<'a> {
     /// The present and the local zone.
-    pub at: Clocked<'a>,
+    pub at: Present<'a>,
     /// The present, with the zone in which times are shown as `local`. FROM and TO are read in this zone, unless they
     /// name another one.
-    pub shown: Clocked<'a>,
+    pub shown: Present<'a>,
     /// The zones that FROM and TO can name.
     pub range: &'a RangeZones,
     /// The timers whose exceptions systemd ignores.
@@ -101,26 +101,26 @@ fn answer_known(
     let Some(shown) = known.shown.zone() else {
         return stopped(alloc, "the local zone isn't known");
     };
-    let asked = asked_by(options, known, style, local, shown);
-    answer_asked(alloc, known, asked)
+    let context = context_of(options, known, style, local, shown);
+    answer_in(alloc, known, context)
 }
 
 /// Returns what all verbs need to know. `local` must be the local zone that is known, and `shown` the zone in which
 /// times are shown.
-fn asked_by<'a>(
+fn context_of<'a>(
     options: &Options,
     known: &'a Known<'_>,
     style: Style,
     local: Zone<'a>,
     shown: Zone<'a>,
-) -> Asked<'a>
+) -> Context<'a>
     ensures { clock_zone known.entry.now.local ≡ Some (zone_of local.entry) → clock_zone known.entry.now.shown ≡ Some (zone_of shown.entry)
-        → IsAskedBy options.entry.now known.entry.now style result }
+        → IsContextOf options.entry.now known.entry.now style result }
 {
     let now = known.now;
-    Asked {
-        at: Clocked { now, local },
-        shown: Clocked { now, local: shown },
+    Context {
+        at: Present { now, local },
+        shown: Present { now, local: shown },
         range: &known.range,
         unguarded: known.unguarded.as_slice(),
         is_user: options.is_user,
@@ -131,11 +131,11 @@ fn asked_by<'a>(
 
 /// Answers a question: runs the verb, and adds the error lines about unreadable parts of the search path and, except
 /// for `due`, the remarks (see [`with_remarks`]).
-fn answer_asked(alloc: Global, known: &Known<'_>, asked: Asked<'_>) -> Result<Answer, AllocError>
+fn answer_in(alloc: Global, known: &Known<'_>, context: Context<'_>) -> Result<Answer, AllocError>
     ensures status { IfOk result (λ answer. answer.status ≤ 2) }
-    ensures answer { IfOk result (λ answer. IsAnswerAsked known.entry.now asked.entry (printed_of answer)) }
+    ensures answer { IfOk result (λ answer. IsAnswerIn known.entry.now context.entry (printed_of answer)) }
 {
-    let answer = answer_loaded(alloc, asked, &known.index, &known.loaded)?;
+    let answer = answer_loaded(alloc, context, &known.index, &known.loaded)?;
     let answer = with_unreadable(alloc, known.index.unreadable(), answer)?;
     match known.loaded {
         // Any error line makes the service fail, so `due` doesn't add these remarks.
@@ -178,12 +178,12 @@ pub(crate) fn stopped(alloc: Global, reason: &str) -> Result<Answer, AllocError>
 /// Answers the question for which this was loaded.
 fn answer_loaded(
     alloc: Global,
-    asked: Asked<'_>,
+    context: Context<'_>,
     index: &UnitIndex,
     loaded: &LoadedByVerb<'_>,
 ) -> Result<Answer, AllocError>
     ensures status { IfOk result (λ answer. answer.status ≤ 2) }
-    ensures answer { IfOk result (λ answer. IsVerbAnswer asked.entry index.now loaded.now (printed_of answer)) }
+    ensures answer { IfOk result (λ answer. IsVerbAnswer context.entry index.now loaded.now (printed_of answer)) }
 {
     match loaded {
         LoadedByVerb::List {
@@ -191,9 +191,9 @@ fn answer_loaded(
             named,
             is_all,
             entries,
-        } => list(alloc, asked, named, *is_all, timers, entries.as_ref()),
+        } => list(alloc, context, named, *is_all, timers, entries.as_ref()),
         LoadedByVerb::Show { timers, count, .. } | LoadedByVerb::Next { timers, count, .. } => {
-            show(alloc, asked, *count, timers)
+            show(alloc, context, *count, timers)
         }
         LoadedByVerb::Lint {
             files,
@@ -201,22 +201,22 @@ fn answer_loaded(
             crontabs,
             is_strict,
             ..
-        } => lint(alloc, asked, *is_strict, index, files, timers, crontabs),
+        } => lint(alloc, context, *is_strict, index, files, timers, crontabs),
         LoadedByVerb::Between {
             timers,
             from,
             to,
             entries,
             ..
-        } => between(alloc, asked, timers, entries.as_ref(), from, to),
+        } => between(alloc, context, timers, entries.as_ref(), from, to),
         LoadedByVerb::Same {
             first,
             one,
             second,
             other,
-        } => same(alloc, asked, one, other, first, second),
-        LoadedByVerb::Due { timer, named } => due(alloc, asked, *named, timer),
-        LoadedByVerb::Cron { crontabs, .. } => cron(alloc, asked, crontabs),
+        } => same(alloc, context, one, other, first, second),
+        LoadedByVerb::Due { timer, named } => due(alloc, context, *named, timer),
+        LoadedByVerb::Cron { crontabs, .. } => cron(alloc, context, crontabs),
     }
 }
 

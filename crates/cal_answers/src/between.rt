@@ -9,7 +9,7 @@ ghost use Rattle.cal_answers.specs.rules.CrontabTimers.{AreMerged};
 ghost use Rattle.cal_answers.specs.rules.Output.{AreBetweenRows, IsAnswerUntil, IsBetweenAnswer, IsRangeAnswer, IsStoppedBy, bad_time, between_output, elapse_second};
 ghost use Rattle.cal_answers.specs.rules.Printed.{IsStopped, printed_of};
 
-use crate::answer::{Answer, Asked, stopped, with_error_lines};
+use crate::answer::{Answer, Context, stopped, with_error_lines};
 use crate::crontab_timers::{CrontabTimers, with_crontab_lines};
 use cal_load::Loaded;
 use cal_stamp::StampFault;
@@ -22,7 +22,7 @@ use std::alloc::{AllocError, Global};
 /// end, which isn't. An end such as `Mon 06:00` resolves to the first such time after the start.
 pub(crate) fn between(
     alloc: Global,
-    asked: Asked<'_>,
+    context: Context<'_>,
     loaded: &Loaded,
     entries: Option<&CrontabTimers>,
     from: &str,
@@ -30,10 +30,16 @@ pub(crate) fn between(
 ) -> Result<Answer, AllocError>
     ensures status { IfOk result (λ answer. answer.status ≤ 2) }
     ensures answer { IfOk result (λ answer.
-        IsBetweenAnswer asked.entry loaded.now (option_copied entries.entry) from.now before.now (printed_of answer)) }
+        IsBetweenAnswer context.entry loaded.now (option_copied entries.entry) from.now before.now (printed_of answer)) }
 {
-    match read_when(alloc, asked.shown, &asked.range.from, asked.shown.now, from) {
-        Ok(instant) => between_from(alloc, asked, loaded, entries, instant, before),
+    match read_when(
+        alloc,
+        context.shown,
+        &context.range.from,
+        context.shown.now,
+        from,
+    ) {
+        Ok(instant) => between_from(alloc, context, loaded, entries, instant, before),
         Err(fault) => bad_time(alloc, from, fault),
     }
 }
@@ -41,19 +47,19 @@ pub(crate) fn between(
 /// Lists the elapses of timers in a range that starts at `from`. `before` is the text of its end.
 fn between_from(
     alloc: Global,
-    asked: Asked<'_>,
+    context: Context<'_>,
     loaded: &Loaded,
     entries: Option<&CrontabTimers>,
     from: Instant,
     before: &str,
 ) -> Result<Answer, AllocError>
     ensures status { IfOk result (λ answer. answer.status ≤ 2) }
-    ensures answer { IfOk result (λ answer. IsAnswerUntil asked.entry loaded.now (option_copied entries.entry) from.secs before.now
-        (when_in asked.entry.shown.now.secs (setting_with asked.entry.shown asked.entry.range.now.before) from.secs before.now)
+    ensures answer { IfOk result (λ answer. IsAnswerUntil context.entry loaded.now (option_copied entries.entry) from.secs before.now
+        (when_in context.entry.shown.now.secs (setting_with context.entry.shown context.entry.range.now.before) from.secs before.now)
         (printed_of answer)) }
 {
-    match read_when(alloc, asked.shown, &asked.range.before, from, before) {
-        Ok(instant) => between_instants(alloc, asked, loaded, entries, from, instant),
+    match read_when(alloc, context.shown, &context.range.before, from, before) {
+        Ok(instant) => between_instants(alloc, context, loaded, entries, from, instant),
         Err(fault) => bad_time(alloc, before, fault),
     }
 }
@@ -85,7 +91,7 @@ fn bad_time_words(alloc: Global, text: &str, fault: StampFault) -> Result<String
 
 fn between_instants(
     alloc: Global,
-    asked: Asked<'_>,
+    context: Context<'_>,
     loaded: &Loaded,
     entries: Option<&CrontabTimers>,
     from: Instant,
@@ -93,13 +99,13 @@ fn between_instants(
 ) -> Result<Answer, AllocError>
     ensures status { IfOk result (λ answer. answer.status ≤ 2) }
     ensures answer { IfOk result (λ answer.
-        IsRangeAnswer asked.entry loaded.now (option_copied entries.entry) from.secs before.secs (int_lt before.secs from.secs) (printed_of answer)) }
+        IsRangeAnswer context.entry loaded.now (option_copied entries.entry) from.secs before.secs (int_lt before.secs from.secs) (printed_of answer)) }
 {
     if before.secs() < from.secs() {
         return stopped(alloc, "TO is before FROM");
     }
-    let rows = rows_with_entries(alloc, asked, loaded, entries, from, before)?;
-    let out = between_output(alloc, asked, rows.as_slice())?;
+    let rows = rows_with_entries(alloc, context, loaded, entries, from, before)?;
+    let out = between_output(alloc, context, rows.as_slice())?;
     let answer = with_error_lines(alloc, loaded, out)?;
     with_crontab_lines(alloc, entries, answer)
 }
@@ -107,20 +113,20 @@ fn between_instants(
 /// Returns the elapses of the timers in the range, and those of the entries of crontabs among them.
 fn rows_with_entries<'l>(
     alloc: Global,
-    asked: Asked<'_>,
+    context: Context<'_>,
     loaded: &'l Loaded,
     entries: Option<&'l CrontabTimers>,
     from: Instant,
     before: Instant,
 ) -> Result<Vec<UnitElapse<'l>>, AllocError>
-    ensures { IfOk result (λ rows. AreBetweenRows asked.entry loaded.now (option_copied entries.entry) from.secs before.secs rows.items) }
+    ensures { IfOk result (λ rows. AreBetweenRows context.entry loaded.now (option_copied entries.entry) from.secs before.secs rows.items) }
 {
-    let rows = between_rows(alloc, asked.at, from, before, loaded.timers.as_slice())?;
+    let rows = between_rows(alloc, context.at, from, before, loaded.timers.as_slice())?;
     let Some(entries) = entries else {
         return Ok(rows);
     };
     let timers = entries.timers.timers.as_slice();
-    let more = between_rows(alloc, asked.at, from, before, timers)?;
+    let more = between_rows(alloc, context.at, from, before, timers)?;
     merged_rows(rows, more)
 }
 
@@ -140,14 +146,14 @@ fn merged_rows<'l>(
 
 fn between_output(
     alloc: Global,
-    asked: Asked<'_>,
+    context: Context<'_>,
     rows: &[UnitElapse<'_>],
 ) -> Result<String, AllocError>
-    ensures { IfOk result (λ out. string_bytes out ≡ between_output asked.entry (map elapse_seen rows.now)) }
+    ensures { IfOk result (λ out. string_bytes out ≡ between_output context.entry (map elapse_seen rows.now)) }
 {
-    if asked.is_json {
-        between_json(alloc, asked.shown.local, rows)
+    if context.is_json {
+        between_json(alloc, context.shown.local, rows)
     } else {
-        between_text(alloc, asked.shown.local, rows)
+        between_text(alloc, context.shown.local, rows)
     }
 }

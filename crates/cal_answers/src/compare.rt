@@ -11,7 +11,7 @@ ghost use Rattle.cal_bytes.specs.rules.Trim.{trim_end_matches};
 ghost use Rattle.cal_machine.specs.rules.Places.{is_slash};
 
 use crate::answer::{
-    Answer, Asked, INVALID, UNUSABLE, fault_lines, push_all_lines, push_fault_line,
+    Answer, Context, INVALID, UNUSABLE, fault_lines, push_all_lines, push_fault_line,
     push_ignored_lines, push_masked, stopped,
 };
 use cal_load::{Loaded, LoadedTimer, TargetFault, is_path};
@@ -23,7 +23,7 @@ use std::alloc::{AllocError, Global};
 /// is an error, even if it has only one timer, and so is a timer that is masked or can't be loaded.
 pub(crate) fn same(
     alloc: Global,
-    asked: Asked<'_>,
+    context: Context<'_>,
     one: &str,
     other: &str,
     first: &Loaded,
@@ -31,7 +31,7 @@ pub(crate) fn same(
 ) -> Result<Answer, AllocError>
     ensures status { IfOk result (λ answer. answer.status ≤ 2) }
     ensures answer { IfOk result (λ answer.
-        IsSameAnswer asked.entry one.now other.now first.now second.now (printed_of answer)) }
+        IsSameAnswer context.entry one.now other.now first.now second.now (printed_of answer)) }
 {
     if let Some(folder) = folder_of_both(one, other, first, second) {
         let reason = not_a_timer(alloc, folder)?;
@@ -40,7 +40,7 @@ pub(crate) fn same(
     match (first.timers.first(), second.timers.first()) {
         (Some(one), Some(other)) => {
             let err = lines_of_both(alloc, first, second)?;
-            compared(alloc, asked, one, other, err)
+            compared(alloc, context, one, other, err)
         }
         _ => unloaded(alloc, first, second),
     }
@@ -105,17 +105,17 @@ fn without_end_slashes(target: &str) -> &str
 /// of their files that are ignored.
 fn compared(
     alloc: Global,
-    asked: Asked<'_>,
+    context: Context<'_>,
     one: &LoadedTimer,
     other: &LoadedTimer,
     err: String,
 ) -> Result<Answer, AllocError>
     ensures status { IfOk result (λ answer. answer.status ≤ 2) }
-    ensures answer { IfOk result (λ answer. IsComparedAnswer asked.entry (string_bytes err)
-        (comparison_of asked.entry.at one.now other.now) (printed_of answer)) }
+    ensures answer { IfOk result (λ answer. IsComparedAnswer context.entry (string_bytes err)
+        (comparison_of context.entry.at one.now other.now) (printed_of answer)) }
 {
-    let found = compare(alloc, asked.at, one, other)?;
-    let out = same_output(alloc, asked, &found)?;
+    let found = compare(alloc, context.at, one, other)?;
+    let out = same_output(alloc, context, &found)?;
     let status = if is_same(&found) && err.is_empty() {
         0
     } else {
@@ -133,15 +133,15 @@ fn is_same(found: &Comparison<'_>) -> bool
 
 fn same_output(
     alloc: Global,
-    asked: Asked<'_>,
+    context: Context<'_>,
     found: &Comparison<'_>,
 ) -> Result<String, AllocError>
-    ensures { IfOk result (λ out. string_bytes out ≡ same_output asked.entry (comparison_seen found.now)) }
+    ensures { IfOk result (λ out. string_bytes out ≡ same_output context.entry (comparison_seen found.now)) }
 {
-    if asked.is_json {
-        same_json(alloc, asked.shown.local, found)
+    if context.is_json {
+        same_json(alloc, context.shown.local, found)
     } else {
-        same_text(alloc, asked.shown.local, found)
+        same_text(alloc, context.shown.local, found)
     }
 }
 

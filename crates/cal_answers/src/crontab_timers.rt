@@ -30,7 +30,7 @@ pub(crate) fn load_crontab_timers<T: Tree>(
     tree: &mut T,
     is_cron: bool,
 ) -> Result<Option<CrontabTimers>, AllocError>
-    ensures asked { IfOk result (λ entries. is_some entries ≡ is_cron) }
+    ensures context { IfOk result (λ entries. is_some entries ≡ is_cron) }
     ensures known { IfOk result (λ entries. (machine : Machine) → T.shows tree.new machine → AreCrontabTimersOn machine entries) }
     ensures grows { (machine : Machine) → T.shows tree.new machine → T.shows tree.old machine }
 {

@@ -5,7 +5,9 @@ ghost use Rattle.cal_timers_report.specs.rules.ReportView.{due_seen};
 ghost use Rattle.cal_answers.specs.rules.Output.{IsDueAnswer, IsFirstDue, IsUnloaded, due_output, due_view, folder_of, status_of};
 ghost use Rattle.cal_answers.specs.rules.Printed.{printed_of};
 
-use crate::answer::{Answer, Asked, INVALID, fault_lines, push_masked, stopped, with_error_lines};
+use crate::answer::{
+    Answer, Context, INVALID, fault_lines, push_masked, stopped, with_error_lines,
+};
 use crate::compare::{if_folder, not_a_timer};
 use cal_load::{Loaded, LoadedTimer};
 use cal_tasks::{DueRun, due_run};
@@ -16,30 +18,30 @@ use std::alloc::{AllocError, Global};
 /// `named` is the target, if there is one.
 pub(crate) fn due(
     alloc: Global,
-    asked: Asked<'_>,
+    context: Context<'_>,
     named: Option<&str>,
     loaded: &Option<Loaded>,
 ) -> Result<Answer, AllocError>
     ensures status { IfOk result (λ answer. answer.status ≤ 2) }
     ensures answer { IfOk result (λ answer.
-        IsDueAnswer asked.entry (option_map (λ name. name.now) named.entry) loaded.now (printed_of answer)) }
+        IsDueAnswer context.entry (option_map (λ name. name.now) named.entry) loaded.now (printed_of answer)) }
 {
     match loaded {
-        Some(timer) => due_by(alloc, asked, named, timer),
-        None => by_hand(alloc, asked),
+        Some(timer) => due_by(alloc, context, named, timer),
+        None => by_hand(alloc, context),
     }
 }
 
-fn by_hand(alloc: Global, asked: Asked<'_>) -> Result<Answer, AllocError>
+fn by_hand(alloc: Global, context: Context<'_>) -> Result<Answer, AllocError>
     ensures status { IfOk result (λ answer. answer.status ≤ 2) }
-    ensures answer { IfOk result (λ answer. IsDueAnswer asked.entry None None (printed_of answer)) }
+    ensures answer { IfOk result (λ answer. IsDueAnswer context.entry None None (printed_of answer)) }
 {
     let report = DueReport {
         unit: None,
         verdict: DueVerdict::ByHand,
     };
     Ok(Answer {
-        out: due_output(alloc, asked, &report)?,
+        out: due_output(alloc, context, &report)?,
         err: String::new(alloc),
         status: 0,
     })
@@ -49,20 +51,20 @@ fn by_hand(alloc: Global, asked: Asked<'_>) -> Result<Answer, AllocError>
 /// timer.
 fn due_by(
     alloc: Global,
-    asked: Asked<'_>,
+    context: Context<'_>,
     named: Option<&str>,
     loaded: &Loaded,
 ) -> Result<Answer, AllocError>
     ensures status { IfOk result (λ answer. answer.status ≤ 2) }
     ensures answer { IfOk result (λ answer.
-        IsDueAnswer asked.entry (option_map (λ name. name.now) named.entry) (Some loaded.now) (printed_of answer)) }
+        IsDueAnswer context.entry (option_map (λ name. name.now) named.entry) (Some loaded.now) (printed_of answer)) }
 {
     if let Some(folder) = folder_of(named, loaded) {
         let reason = not_a_timer(alloc, folder)?;
         return stopped(alloc, reason.as_str());
     }
     match loaded.timers.first() {
-        Some(timer) => due_by_timer(alloc, asked, loaded, timer),
+        Some(timer) => due_by_timer(alloc, context, loaded, timer),
         None => unloaded(alloc, loaded),
     }
 }
@@ -76,16 +78,16 @@ fn folder_of<'t>(named: Option<&'t str>, loaded: &Loaded) -> Option<&'t str>
 
 fn due_by_timer(
     alloc: Global,
-    asked: Asked<'_>,
+    context: Context<'_>,
     loaded: &Loaded,
     timer: &LoadedTimer,
 ) -> Result<Answer, AllocError>
     ensures status { IfOk result (λ answer. answer.status ≤ 2) }
-    ensures answer { IfOk result (λ answer. IsFirstDue asked.entry loaded.now (Some timer.now) (printed_of answer)) }
+    ensures answer { IfOk result (λ answer. IsFirstDue context.entry loaded.now (Some timer.now) (printed_of answer)) }
 {
-    let run = due_run(alloc, asked.at, timer)?;
+    let run = due_run(alloc, context.at, timer)?;
     let report = report_of(timer, run);
-    let out = due_output(alloc, asked, &report)?;
+    let out = due_output(alloc, context, &report)?;
     let Answer { out, err, status } = with_error_lines(alloc, loaded, out)?;
     let status = status.max(status_of(run));
     Ok(Answer { out, err, status })
@@ -114,13 +116,17 @@ fn status_of(run: DueRun) -> u8
     }
 }
 
-fn due_output(alloc: Global, asked: Asked<'_>, report: &DueReport<'_>) -> Result<String, AllocError>
-    ensures { IfOk result (λ out. string_bytes out ≡ due_output asked.entry (due_seen report.now)) }
+fn due_output(
+    alloc: Global,
+    context: Context<'_>,
+    report: &DueReport<'_>,
+) -> Result<String, AllocError>
+    ensures { IfOk result (λ out. string_bytes out ≡ due_output context.entry (due_seen report.now)) }
 {
-    if asked.is_json {
-        due_json(alloc, asked.shown.local, report)
+    if context.is_json {
+        due_json(alloc, context.shown.local, report)
     } else {
-        due_text(alloc, asked.shown.local, report)
+        due_text(alloc, context.shown.local, report)
     }
 }
 

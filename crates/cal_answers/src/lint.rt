@@ -15,7 +15,7 @@ ghost use Rattle.cal_answers.specs.rules.LintRows.{listed_in, rows_of};
 ghost use Rattle.cal_answers.specs.rules.LintStatus.{lint_status};
 ghost use Rattle.cal_answers.specs.rules.LintTimers.{path_words, problems_of_timers, unread, unread_error, unread_errors};
 
-use crate::answer::{Answer, Asked, INVALID, fault_lines, push_fault_lines};
+use crate::answer::{Answer, Context, INVALID, fault_lines, push_fault_lines};
 use crate::candidates::{Candidate, push_error_about};
 use crate::compare::push_line_unless;
 use crate::crontab_problems::add_crontabs;
@@ -28,7 +28,7 @@ use crate::timer_problems::{add_failed, add_idle, add_ignored_of};
 use cal_crontabs::Crontabs;
 use cal_lint::findings;
 use cal_load::{Loaded, LoadedFiles, TargetFault};
-use cal_tasks::Clocked;
+use cal_tasks::Present;
 use cal_timers_report::Style;
 use cal_timers_text::{ProblemCounts, unread_words};
 use cal_unit_index::{UnitFault, UnitIndex, UnitText};
@@ -44,7 +44,7 @@ const MAX_TEXT: usize = 3 * 1_048_576;
 /// [`INVALID`].
 pub(crate) fn lint(
     alloc: Global,
-    asked: Asked<'_>,
+    context: Context<'_>,
     is_strict: bool,
     index: &UnitIndex,
     files: &LoadedFiles,
@@ -52,25 +52,25 @@ pub(crate) fn lint(
     crontabs: &Crontabs,
 ) -> Result<Answer, AllocError>
     ensures status { IfOk result (λ answer. answer.status ≤ 2) }
-    ensures prints { IfOk result (λ answer. IsLintBy asked.entry is_strict index.now files.now timers.now crontabs.now (string_bytes answer.out) (string_bytes answer.err) answer.status) }
+    ensures prints { IfOk result (λ answer. IsLintBy context.entry is_strict index.now files.now timers.now crontabs.now (string_bytes answer.out) (string_bytes answer.err) answer.status) }
     ensures lines { IfOk result (λ answer. string_bytes answer.err
         ≡ lint_lines files.now.faults.items timers.now.faults.items crontabs.now.faults.items) }
 {
     let mut problems = Problems::new(alloc);
-    add_files(alloc, asked.style, files.files.as_slice(), &mut problems)?;
+    add_files(alloc, context.style, files.files.as_slice(), &mut problems)?;
     add_crontabs(
         alloc,
-        asked.style,
+        context.style,
         crontabs.crontabs.as_slice(),
         &mut problems,
     )?;
-    let found = problems_of_timers(alloc, asked.at, index, timers)?;
-    problems.add_all(alloc, asked.style, found.as_slice())?;
+    let found = problems_of_timers(alloc, context.at, index, timers)?;
+    problems.add_all(alloc, context.style, found.as_slice())?;
     add_unguarded(
         alloc,
-        asked.style,
-        asked.is_user,
-        asked.unguarded,
+        context.style,
+        context.is_user,
+        context.unguarded,
         &mut problems,
     )?;
     let err = error_lines(
@@ -82,23 +82,23 @@ pub(crate) fn lint(
     let counts = problems.counts();
     let status = lint_status(is_strict, counts, has_lines(err.as_str()));
     let lacking = unread(alloc, index, files, timers, crontabs)?;
-    let out = lint_output(alloc, asked, lacking.as_slice(), problems)?;
+    let out = lint_output(alloc, context, lacking.as_slice(), problems)?;
     Ok(Answer { out, err, status })
 }
 
 /// Returns the text about these problems, or the JSON document about them and about what can't be read.
 fn lint_output(
     alloc: Global,
-    asked: Asked<'_>,
+    context: Context<'_>,
     lacking: &[Candidate],
     problems: Problems,
 ) -> Result<String, AllocError>
-    ensures { IfOk result (λ out. string_bytes out ≡ lint_output asked.entry (map shown_candidate lacking.now) (listed_in problems)) }
+    ensures { IfOk result (λ out. string_bytes out ≡ lint_output context.entry (map shown_candidate lacking.now) (listed_in problems)) }
 {
-    if !asked.is_json {
+    if !context.is_json {
         return problems.text(alloc, problems.counts());
     }
-    json_with(alloc, asked.style, lacking, problems)
+    json_with(alloc, context.style, lacking, problems)
 }
 
 fn json_with(
@@ -117,7 +117,7 @@ fn json_with(
 /// Returns the problems that are found when timers are loaded, in the order in which they are listed.
 fn problems_of_timers(
     alloc: Global,
-    at: Clocked<'_>,
+    at: Present<'_>,
     index: &UnitIndex,
     timers: &Loaded,
 ) -> Result<Vec<Candidate>, AllocError>

@@ -14,7 +14,7 @@ use cal_load::{
     BrokenLine, BrokenReason, IgnoredLine, LoadedTimer, TargetFault, TargetReason, TimerFiles,
     UnusableZone,
 };
-use cal_tasks::{Clocked, IdleLine, idle_lines};
+use cal_tasks::{IdleLine, Present, idle_lines};
 use cal_timers_text::{
     NOTHING_TO_DO, broken_drop_in_words, broken_file_words, idle_words, invalid_words, zone_words,
 };
@@ -284,7 +284,7 @@ fn unless_reported(reason: BrokenReason) -> Unless
 /// about each exception that suppresses nothing.
 pub(crate) fn add_idle(
     alloc: Global,
-    at: Clocked<'_>,
+    at: Present<'_>,
     timers: &[LoadedTimer],
     found: &mut Vec<Candidate>,
 ) -> Result<(), AllocError>
@@ -298,7 +298,7 @@ pub(crate) fn add_idle(
 
 fn add_idle_of(
     alloc: Global,
-    at: Clocked<'_>,
+    at: Present<'_>,
     timer: &LoadedTimer,
     found: &mut Vec<Candidate>,
 ) -> Result<(), AllocError>

@@ -9,7 +9,7 @@ ghost use Rattle.cal_answers.specs.rules.CrontabTimers.{AreMerged};
 ghost use Rattle.cal_answers.specs.rules.Output.{AreListRows, IsListAnswer, IsShowAnswer, IsShownAs, list_output, listed_masked, next_second, show_output};
 ghost use Rattle.cal_answers.specs.rules.Printed.{printed_of};
 
-use crate::answer::{Answer, Asked, with_error_lines};
+use crate::answer::{Answer, Context, with_error_lines};
 use crate::crontab_timers::{CrontabTimers, with_crontab_lines};
 use cal_load::Loaded;
 use cal_tasks::{list_rows, shown_timer};
@@ -22,18 +22,18 @@ use std::alloc::{AllocError, Global};
 /// a masked unit.
 pub(crate) fn list(
     alloc: Global,
-    asked: Asked<'_>,
+    context: Context<'_>,
     named: &[String],
     is_all: bool,
     loaded: &Loaded,
     entries: Option<&CrontabTimers>,
 ) -> Result<Answer, AllocError>
     ensures status { IfOk result (λ answer. answer.status ≤ 2) }
-    ensures answer { IfOk result (λ answer. IsListAnswer asked.entry named.now is_all loaded.now (option_copied entries.entry) (printed_of answer)) }
+    ensures answer { IfOk result (λ answer. IsListAnswer context.entry named.now is_all loaded.now (option_copied entries.entry) (printed_of answer)) }
 {
     let masked = listed_masked(named, is_all, loaded);
-    let rows = rows_with_entries(alloc, asked, loaded, masked, entries)?;
-    let out = list_output(alloc, asked, rows.as_slice())?;
+    let rows = rows_with_entries(alloc, context, loaded, masked, entries)?;
+    let out = list_output(alloc, context, rows.as_slice())?;
     let answer = with_error_lines(alloc, loaded, out)?;
     with_crontab_lines(alloc, entries, answer)
 }
@@ -41,18 +41,18 @@ pub(crate) fn list(
 /// Returns the rows of the timers, and those of the entries of crontabs among them.
 fn rows_with_entries<'l>(
     alloc: Global,
-    asked: Asked<'_>,
+    context: Context<'_>,
     loaded: &'l Loaded,
     masked: &'l [String],
     entries: Option<&'l CrontabTimers>,
 ) -> Result<Vec<ListRow<'l>>, AllocError>
-    ensures { IfOk result (λ rows. AreListRows asked.entry loaded.now (map string_bytes masked.now) (option_copied entries.entry) rows.items) }
+    ensures { IfOk result (λ rows. AreListRows context.entry loaded.now (map string_bytes masked.now) (option_copied entries.entry) rows.items) }
 {
-    let rows = list_rows(alloc, asked.at, loaded, masked, asked.unguarded)?;
+    let rows = list_rows(alloc, context.at, loaded, masked, context.unguarded)?;
     let Some(entries) = entries else {
         return Ok(rows);
     };
-    let more = list_rows(alloc, asked.at, &entries.timers, &[], &[])?;
+    let more = list_rows(alloc, context.at, &entries.timers, &[], &[])?;
     merged_rows(rows, more)
 }
 
@@ -92,45 +92,49 @@ fn listed_masked<'l>(named: &[String], is_all: bool, loaded: &'l Loaded) -> &'l 
     }
 }
 
-fn list_output(alloc: Global, asked: Asked<'_>, rows: &[ListRow<'_>]) -> Result<String, AllocError>
-    ensures { IfOk result (λ out. string_bytes out ≡ list_output asked.entry (map unit_seen rows.now)) }
+fn list_output(
+    alloc: Global,
+    context: Context<'_>,
+    rows: &[ListRow<'_>],
+) -> Result<String, AllocError>
+    ensures { IfOk result (λ out. string_bytes out ≡ list_output context.entry (map unit_seen rows.now)) }
 {
-    let (zone, now) = (asked.shown.local, asked.shown.now);
-    if asked.is_json {
+    let (zone, now) = (context.shown.local, context.shown.now);
+    if context.is_json {
         list_json(alloc, zone, now, rows)
     } else {
-        list_text(alloc, zone, now, rows, asked.style)
+        list_text(alloc, zone, now, rows, context.style)
     }
 }
 
 /// Shows each timer with its files and at most `count` of its next elapses.
 pub(crate) fn show(
     alloc: Global,
-    asked: Asked<'_>,
+    context: Context<'_>,
     count: u32,
     loaded: &Loaded,
 ) -> Result<Answer, AllocError>
     ensures status { IfOk result (λ answer. answer.status ≤ 2) }
-    ensures answer { IfOk result (λ answer. IsShowAnswer asked.entry count loaded.now (printed_of answer)) }
+    ensures answer { IfOk result (λ answer. IsShowAnswer context.entry count loaded.now (printed_of answer)) }
 {
-    let timers = shown_timers(alloc, asked, count, loaded)?;
-    let out = show_output(alloc, asked, timers.as_slice(), loaded.masked.as_slice())?;
+    let timers = shown_timers(alloc, context, count, loaded)?;
+    let out = show_output(alloc, context, timers.as_slice(), loaded.masked.as_slice())?;
     with_error_lines(alloc, loaded, out)
 }
 
 /// Returns the report of each timer that was loaded.
 fn shown_timers<'l>(
     alloc: Global,
-    asked: Asked<'_>,
+    context: Context<'_>,
     count: u32,
     loaded: &'l Loaded,
 ) -> Result<Vec<ShownTimer<'l>>, AllocError>
-    ensures { IfOk result (λ timers. AllZip (IsShownAs asked.entry count) loaded.now.timers.items (map timer_seen timers.items)) }
+    ensures { IfOk result (λ timers. AllZip (IsShownAs context.entry count) loaded.now.timers.items (map timer_seen timers.items)) }
 {
     let mut timers: Vec<ShownTimer<'l>> = Vec::new(alloc);
     for timer in &loaded.timers {
-        let warnings = warnings_of(alloc, asked.at, timer)?;
-        let shown = shown_timer(alloc, asked.at, timer, warnings, asked.unguarded, count)?;
+        let warnings = warnings_of(alloc, context.at, timer)?;
+        let shown = shown_timer(alloc, context.at, timer, warnings, context.unguarded, count)?;
         timers.push(shown)?;
     }
     Ok(timers)
@@ -138,17 +142,17 @@ fn shown_timers<'l>(
 
 fn show_output(
     alloc: Global,
-    asked: Asked<'_>,
+    context: Context<'_>,
     timers: &[ShownTimer<'_>],
     masked: &[String],
 ) -> Result<String, AllocError>
     ensures { IfOk result (λ out. string_bytes out
-        ≡ show_output asked.entry (map timer_seen timers.now) (map string_bytes masked.now)) }
+        ≡ show_output context.entry (map timer_seen timers.now) (map string_bytes masked.now)) }
 {
-    let (zone, now) = (asked.shown.local, asked.shown.now);
-    if asked.is_json {
+    let (zone, now) = (context.shown.local, context.shown.now);
+    if context.is_json {
         show_json(alloc, zone, now, timers)
     } else {
-        show_text(alloc, zone, now, timers, masked, asked.style)
+        show_text(alloc, zone, now, timers, masked, context.style)
     }
 }

@@ -24,7 +24,7 @@ use Rattle.cal_load.specs.declared.loaded.LoadedTimer.{LoadedTimer}
 use Rattle.cal_timers_report.specs.rules.ReportView.{ElapseView}
 use Rattle.cal_tasks.proofs.InOrderLemmas.{AreBefore, AreInOrder, in_order-append, in_order-flat_map, in_order-indices, in_order-map, sorted-in_order}
 use Rattle.cal_tasks.proofs.SameLemmas.{rising}
-use Rattle.cal_tasks.specs.declared.clocked.Clocked.{Clocked}
+use Rattle.cal_tasks.specs.declared.present.Present.{Present}
 use Rattle.cal_tasks.specs.declared.timer_elapse.TimerElapse.{TimerElapse}
 use Rattle.cal_tasks.specs.rules.BetweenLaw.{IsElapseRow, elapses_then, row_at, rows_at}
 use Rattle.cal_tasks.specs.rules.BetweenReport.{AreBetween, named, named_at}
@@ -368,7 +368,7 @@ inside from before secs there h = grind (arith, ints)
 inside_if : (from before secs : ℤ) (there : Bool) → from ≤ℤ secs → secs <ℤ before → there ≡ true → (in_range from before secs && there) ≡ true
 inside_if from before secs there low high is = grind (arith, ints)
 
-module _ (at : Clocked) (from before : ℤ) (timers : List LoadedTimer) (rows : List ElapseView) (is : AreBetween at from before timers rows) where
+module _ (at : Present) (from before : ℤ) (timers : List LoadedTimer) (rows : List ElapseView) (is : AreBetween at from before timers rows) where
   -- at each instant, the rows are those of the timers that elapse then
   pub rows_are_those : (secs : ℤ) → rows_at secs rows ≡ map (row_at secs) (filter (elapses_then at from before secs) timers)
   rows_are_those secs =

@@ -19,7 +19,7 @@ use Rattle.cal_zone.specs.rules.Setting.{Setting}
 use Rattle.cal_tasks.proofs.AtInstantLemmas.{any_if_elapse, at_if_elapse}
 use Rattle.cal_tasks.specs.computed.AtInstant.{elapses_at, line_elapses_at}
 use Rattle.cal_tasks.specs.computed.LastSearch.{IsLastAfter, IsLastUntil}
-use Rattle.cal_tasks.specs.declared.clocked.Clocked.{Clocked}
+use Rattle.cal_tasks.specs.declared.present.Present.{Present}
 use Rattle.cal_tasks.specs.rules.LastElapse.{IsLastElapse, IsLastOf, timed_expressions, timed_lines}
 use Rattle.cal_tasks.specs.rules.LoadedElapses.{setting_for}
 
@@ -94,7 +94,7 @@ members_after at base list except i = (AreElapses-elapses_except (map (timed_ent
 
 -- In the list of the elapses after `base`, the last element up to the present is the last elapse. If there is no such
 -- element, there is no elapse after `base` up to the present.
-last_after_base : (at : Clocked) (timer : LoadedTimer) (except : List (TimerLine Fields)) (base : ℤ) (last : Option ℤ) → pos 0 ≤ℤ base → IsInstant at.now.secs
+last_after_base : (at : Present) (timer : LoadedTimer) (except : List (TimerLine Fields)) (base : ℤ) (last : Option ℤ) → pos 0 ≤ℤ base → IsInstant at.now.secs
     → IsLastUntil at.now.secs (elapses_of_lists (setting_for at timer) base (record { expressions = expressions_in timer.calendar; exceptions = except })) last
     → IsLastAfter at timer (timed_lines at timer except) base last
 last_after_base at timer except base None low now found =
@@ -117,7 +117,7 @@ last_after_base at timer except base (Some last) low now found =
     }
 
 -- `last_after_base`, with other names for the setting, the expressions and the list of elapses
-pub last_after_here : (at : Clocked) (timer : LoadedTimer) (except : List (TimerLine Fields)) (base : ℤ) (last : Option ℤ) (here : Setting) (list : List (TimerLine Fields)) (xs : List ℤ) → pos 0 ≤ℤ base → IsInstant at.now.secs
+pub last_after_here : (at : Present) (timer : LoadedTimer) (except : List (TimerLine Fields)) (base : ℤ) (last : Option ℤ) (here : Setting) (list : List (TimerLine Fields)) (xs : List ℤ) → pos 0 ≤ℤ base → IsInstant at.now.secs
     → here ≡ setting_for at timer → list ≡ expressions_in timer.calendar
     → xs ≡ elapses_of_lists here base (record { expressions = list; exceptions = except }) → IsLastUntil at.now.secs xs last → IsLastAfter at timer (timed_lines at timer except) base last
 last_after_here at timer except base last here list xs low now same these is found =
@@ -127,7 +127,7 @@ last_after_here at timer except base last here list xs low now same these is fou
 
 -- Suppose that there is no elapse after 0, the first of all instants. If 0 is an elapse, it is the last elapse;
 -- otherwise there is none (`none_at_first`).
-pub last_at_first : (at : Clocked) (timer : LoadedTimer) (exceptions : List Timed) (first : ℤ) → first ≡ pos 0 → IsInstant at.now.secs → IsLastAfter at timer exceptions first None
+pub last_at_first : (at : Present) (timer : LoadedTimer) (exceptions : List Timed) (first : ℤ) → first ≡ pos 0 → IsInstant at.now.secs → IsLastAfter at timer exceptions first None
     → IsElapseExcept (timed_expressions at timer) exceptions first → IsLastElapse at timer exceptions first
 last_at_first at timer exceptions first zero now none is =
     record {
@@ -142,7 +142,7 @@ last_at_first at timer exceptions first zero now none is =
 at_or_below_first : (first i : ℤ) → first ≡ pos 0 → pos 0 ≤ℤ i → i ≤ℤ first → i ≡ first
 at_or_below_first first i zero low high = omega (arith, ints)
 
-pub none_at_first : (at : Clocked) (timer : LoadedTimer) (exceptions : List Timed) (first : ℤ) → first ≡ pos 0 → IsLastAfter at timer exceptions first None
+pub none_at_first : (at : Present) (timer : LoadedTimer) (exceptions : List Timed) (first : ℤ) → first ≡ pos 0 → IsLastAfter at timer exceptions first None
     → (IsElapseExcept (timed_expressions at timer) exceptions first → ⊥) → IsLastOf at timer exceptions None
 none_at_first at timer exceptions first zero none is_not =
     λ secs p. by_lt_z first secs (λ lt. none secs lt p)

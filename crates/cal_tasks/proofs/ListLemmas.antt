@@ -10,7 +10,7 @@ use Rattle.cal_load.specs.declared.loaded.Loaded.{Loaded}
 use Rattle.cal_load.specs.declared.loaded.LoadedTimer.{LoadedTimer}
 use Rattle.cal_timers_report.specs.rules.ReportView.{UnitView}
 use Rattle.cal_tasks.specs.declared.timer_elapse.TimerElapse.{TimerElapse}
-use Rattle.cal_tasks.specs.declared.clocked.Clocked.{Clocked}
+use Rattle.cal_tasks.specs.declared.present.Present.{Present}
 use Rattle.cal_tasks.specs.rules.ListLaw.{row_by, timer_row}
 use Rattle.cal_tasks.specs.rules.ListReport.{IsListOf, elapsing_row, elapsing_rows, ended_row, ended_rows, failed_rows, masked_rows, row_at_elapse, row_if, row_of_ended}
 use Rattle.cal_tasks.specs.rules.LoadedElapses.{elapses_in}
@@ -143,7 +143,7 @@ rows_of_timers loaded unguarded instants soonest [] none same =
     (subst (λ (elapses : List TimerElapse). IsPermutation [] (elapsing_rows loaded unguarded elapses ++ [])) (sym (no_timer loaded instants soonest none same)) (IsPermutation-refl []))
 rows_of_timers loaded unguarded instants soonest (d ∷ timers) some same = timers_have_rows loaded unguarded instants d soonest same
 
-pub one_row_each : (at : Clocked) (loaded : Loaded) (masked : List (List ℕ)) (unguarded : List UnguardedView) (rows : List UnitView) → IsListOf at loaded masked unguarded rows
+pub one_row_each : (at : Present) (loaded : Loaded) (masked : List (List ℕ)) (unguarded : List UnguardedView) (rows : List UnitView) → IsListOf at loaded masked unguarded rows
     → IsPermutation ((map (timer_row at loaded unguarded) loaded.timers.items ++ masked_rows masked) ++ failed_rows loaded.faults.items) rows
 one_row_each at loaded masked unguarded rows is =
     rw is.joined

@@ -12,7 +12,7 @@ use Rattle.cal_timers_report.specs.rules.ReportView.{UnitView}
 use Rattle.cal_tasks.specs.rules.Unguarded.{UnguardedView}
 use Rattle.cal_tasks.proofs.BetweenLemmas.{IsUpTo, not_after, timers_in_order}
 use Rattle.cal_tasks.proofs.InOrderLemmas.{AreBefore, AreInOrder, all-append, in_order-append, in_order-flat_map, sorted-in_order}
-use Rattle.cal_tasks.specs.declared.clocked.Clocked.{Clocked}
+use Rattle.cal_tasks.specs.declared.present.Present.{Present}
 use Rattle.cal_tasks.specs.declared.timer_elapse.TimerElapse.{TimerElapse}
 use Rattle.cal_tasks.specs.rules.ListLaw.{is_sooner}
 use Rattle.cal_tasks.specs.rules.ListReport.{IsListOf, elapsing_row, elapsing_rows, ended_row, ended_rows, failed_rows, masked_rows, noted_row, row_at_elapse, row_if, row_of_ended}
@@ -96,7 +96,7 @@ noted_none : {X : Type 0} (note : List ℕ) (unit : X → List ℕ) (xs : List X
 noted_none note unit [] = tt
 noted_none note unit (x ∷ xs) = (refl, noted_none note unit xs)
 
-pub soonest_first : (at : Clocked) (loaded : Loaded) (masked : List (List ℕ)) (unguarded : List UnguardedView) (rows : List UnitView) → IsListOf at loaded masked unguarded rows
+pub soonest_first : (at : Present) (loaded : Loaded) (masked : List (List ℕ)) (unguarded : List UnguardedView) (rows : List UnitView) → IsListOf at loaded masked unguarded rows
     → IsSortedBy (λ x y. is_sooner x.next y.next) rows
 soonest_first at loaded masked unguarded rows is =
     subst (λ (l : List UnitView). IsSortedBy (λ x y. is_sooner x.next y.next) l) (sym is.joined)

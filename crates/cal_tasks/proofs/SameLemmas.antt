@@ -10,7 +10,7 @@ use Rattle.cal_rising.proofs.WithoutLemmas.{Has-is_member, Has-without, is_membe
 use Rattle.cal_elapse.proofs.ElapsesLemmas.{AreElapses-elapses_except, first-none}
 use Rattle.cal_load.specs.declared.loaded.LoadedTimer.{LoadedTimer}
 use Rattle.cal_plan.specs.rules.TimerElapses.{elapses_of_lists, timed_entry}
-use Rattle.cal_tasks.specs.declared.clocked.Clocked.{Clocked}
+use Rattle.cal_tasks.specs.declared.present.Present.{Present}
 use Rattle.cal_tasks.specs.rules.Difference.{first_only_in}
 use Rattle.cal_tasks.specs.rules.LoadedElapses.{elapses_in, lists_of_loaded, setting_for}
 use Rattle.cal_tasks.specs.rules.SameReport.{side_of}
@@ -33,13 +33,13 @@ none_only xs ys same =
     first-none (without xs ys) (λ i there. ((Has-without xs ys i).0 there).1 (subst (λ (zs : List ℤ). Has zs i) same ((Has-without xs ys i).0 there).0))
 
 -- the elapses of a timer after a base are strictly increasing
-pub rising : (at : Clocked) (base : ℤ) (timer : LoadedTimer) → IsStrictlySortedBy int_cmp (elapses_in at base timer)
+pub rising : (at : Present) (base : ℤ) (timer : LoadedTimer) → IsStrictlySortedBy int_cmp (elapses_in at base timer)
 unfolding elapses_of_lists
 rising at base timer =
     let lists = lists_of_loaded timer.calendar in
     (AreElapses-elapses_except (map (timed_entry (setting_for at timer)) lists.expressions) (map (timed_entry (setting_for at timer)) lists.exceptions) base).rises
 
-pub no_difference : (at : Clocked) (one other : LoadedTimer)
+pub no_difference : (at : Present) (one other : LoadedTimer)
     → (((side_of at one other).only ≡ None) × ((side_of at other one).only ≡ None)) ↔ (elapses_in at at.now.secs one ≡ elapses_in at at.now.secs other)
 no_difference at one other =
     let xs = elapses_in at at.now.secs one in

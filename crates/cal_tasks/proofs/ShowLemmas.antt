@@ -17,7 +17,7 @@ use Rattle.cal_zone.specs.rules.Zone.{zone_of}
 use Rattle.cal_zone.specs.rules.ZoneTable.{zone_named}
 use Rattle.cal_tasks.specs.rules.Unguarded.{UnguardedView}
 use Rattle.cal_tasks.proofs.SameLemmas.{rising}
-use Rattle.cal_tasks.specs.declared.clocked.Clocked.{Clocked}
+use Rattle.cal_tasks.specs.declared.present.Present.{Present}
 use Rattle.cal_tasks.specs.rules.LastElapse.{timed_exceptions, timed_expressions}
 use Rattle.cal_tasks.specs.rules.LoadedElapses.{elapses_in, lists_of_loaded}
 use Rattle.cal_tasks.specs.rules.ShowLaw.{AreFirstElapses}
@@ -88,18 +88,18 @@ last_is (x ∷ xs) o e h =
 
 -- ## The elapses
 
-members : (at : Clocked) (timer : LoadedTimer) (base i : ℤ)
+members : (at : Present) (timer : LoadedTimer) (base i : ℤ)
     → (Has (elapses_in at base timer) i → (base <ℤ i) × IsElapseExcept (timed_expressions at timer) (timed_exceptions at timer) i)
     × ((base <ℤ i) × IsElapseExcept (timed_expressions at timer) (timed_exceptions at timer) i → Has (elapses_in at base timer) i)
 unfolding elapses_of_lists
 members at timer base i = (AreElapses-elapses_except (timed_expressions at timer) (timed_exceptions at timer) base).members i
 
-elapses_later : (at : Clocked) (timer : LoadedTimer) (base e : ℤ) (k : ℕ) → slice_get (elapses_in at base timer) k ≡ Some e
+elapses_later : (at : Present) (timer : LoadedTimer) (base e : ℤ) (k : ℕ) → slice_get (elapses_in at base timer) k ≡ Some e
     → elapses_in at e timer ≡ drop (suc k) (elapses_in at base timer)
 unfolding elapses_of_lists
 elapses_later at timer base e k here = elapses_except-later (timed_expressions at timer) (timed_exceptions at timer) base e k here
 
-first_are : (at : Clocked) (timer : LoadedTimer) (count : ℕ) → AreFirstElapses at timer count (take count (elapses_in at at.now.secs timer))
+first_are : (at : Present) (timer : LoadedTimer) (count : ℕ) → AreFirstElapses at timer count (take count (elapses_in at at.now.secs timer))
 first_are at timer count =
     let xs = elapses_in at at.now.secs timer in
     record {
@@ -109,13 +109,13 @@ first_are at timer count =
       first = λ secs is. first_or_later count xs secs (rising at at.now.secs timer) ((members at timer at.now.secs secs).1 is);
     }
 
-pub shown_are_first : (at : Clocked) (count : ℕ) (warnings : List (List ℕ)) (unguarded : List UnguardedView) (timer : LoadedTimer) (view : TimerView) → IsShownTimer at count warnings unguarded timer view
+pub shown_are_first : (at : Present) (count : ℕ) (warnings : List (List ℕ)) (unguarded : List UnguardedView) (timer : LoadedTimer) (view : TimerView) → IsShownTimer at count warnings unguarded timer view
     → AreFirstElapses at timer count view.elapses
 shown_are_first at count warnings unguarded timer view is =
     subst (λ (xs : List ℤ). AreFirstElapses at timer count xs) (sym is.elapses) (first_are at timer count)
 
 -- the first elapses, followed by those after the last of them
-first_then_later : (at : Clocked) (timer : LoadedTimer) (count more : ℕ) (base e : ℤ) → last_or None (take count (elapses_in at base timer)) ≡ Some e
+first_then_later : (at : Present) (timer : LoadedTimer) (count more : ℕ) (base e : ℤ) → last_or None (take count (elapses_in at base timer)) ≡ Some e
     → take count (elapses_in at base timer) ++ take more (elapses_in at e timer) ≡ take (count + more) (elapses_in at base timer)
 first_then_later at timer count more base e last =
     let xs = elapses_in at base timer in
@@ -128,11 +128,11 @@ first_then_later at timer count more base e last =
           ap (λ (ys : List ℤ). take count xs ++ take more ys) rest ∙ sym (take-add count more xs)
     ]
 
-same_elapses : (at later : Clocked) (timer : LoadedTimer) (base : ℤ) → later.local ≡ at.local → elapses_in later base timer ≡ elapses_in at base timer
+same_elapses : (at later : Present) (timer : LoadedTimer) (base : ℤ) → later.local ≡ at.local → elapses_in later base timer ≡ elapses_in at base timer
 same_elapses at later timer base same =
     ap (λ (zone : Zone). elapses_of_lists (record { local = zone_of zone; find = zone_named timer.zones }) base (lists_of_loaded timer.calendar)) same
 
-pub show_goes_on : (at later : Clocked) (count more : ℕ) (warnings others : List (List ℕ)) (unguarded those : List UnguardedView) (timer : LoadedTimer) (view again : TimerView)
+pub show_goes_on : (at later : Present) (count more : ℕ) (warnings others : List (List ℕ)) (unguarded those : List UnguardedView) (timer : LoadedTimer) (view again : TimerView)
     → IsShownTimer at count warnings unguarded timer view → IsShownTimer later more others those timer again
     → later.local ≡ at.local → last_or None view.elapses ≡ Some later.now.secs
     → view.elapses ++ again.elapses ≡ take (count + more) (elapses_in at at.now.secs timer)

@@ -16,7 +16,7 @@ use Rattle.cal_spec.specs.rules.ZoneSuffix.{ZoneSuffix, at_offset, name_in, of_n
 use Rattle.cal_timer.specs.rules.TimerEntries.{TimerLine}
 use Rattle.cal_zone.specs.rules.Setting.{Setting}
 use Rattle.cal_zone.specs.rules.ZoneTable.{ZoneMap, zone_named}
-use Rattle.cal_tasks.specs.declared.clocked.Clocked.{Clocked}
+use Rattle.cal_tasks.specs.declared.present.Present.{Present}
 use Rattle.cal_tasks.specs.rules.LoadedElapses.{setting_for}
 
 some_not_none : (found : Option TimeZone) → is_some found ≡ true → is_none found ≡ false
@@ -37,20 +37,20 @@ none_lacks_zone local table (entry ∷ entries) h =
     rw (zone_known local table entry.expr.zone (All-head (λ entry. has_zone table entry ≡ true) entry entries h))
     (none_lacks_zone local table entries (All-tail (λ entry. has_zone table entry ≡ true) entry entries h))
 
-all_known : (at : Clocked) (timer : LoadedTimer) (entries : List (TimerLine Fields)) → HasZonesNamedIn timer.zones entries
+all_known : (at : Present) (timer : LoadedTimer) (entries : List (TimerLine Fields)) → HasZonesNamedIn timer.zones entries
     → first_unzoned (setting_for at timer) entries ≡ None
 all_known at timer entries h =
     let here = setting_for at timer in
     ap (option_map (λ (entry : TimerLine Fields). entry.number)) (none_lacks_zone here.local timer.zones entries h)
 
 -- all zones that a timer's expressions name are known
-pub lines_zoned : (at : Clocked) (timer : LoadedTimer) (here : Setting) (lines : List (TimerLine Fields)) → here ≡ setting_for at timer
+pub lines_zoned : (at : Present) (timer : LoadedTimer) (here : Setting) (lines : List (TimerLine Fields)) → here ≡ setting_for at timer
     → lines ≡ expressions_in timer.calendar → first_unzoned here lines ≡ None
 lines_zoned at timer here lines same is =
     (λ j. first_unzoned (same j) (is j)) ∙ all_known at timer (expressions_in timer.calendar) timer.zoned.0
 
 -- all zones that a timer's exceptions name are known
-pub exceptions_zoned : (at : Clocked) (timer : LoadedTimer) (here : Setting) (lines : List (TimerLine Fields)) → here ≡ setting_for at timer
+pub exceptions_zoned : (at : Present) (timer : LoadedTimer) (here : Setting) (lines : List (TimerLine Fields)) → here ≡ setting_for at timer
     → lines ≡ exceptions_in timer.calendar → first_unzoned here lines ≡ None
 exceptions_zoned at timer here lines same is =
     (λ j. first_unzoned (same j) (is j)) ∙ all_known at timer (exceptions_in timer.calendar) timer.zoned.1

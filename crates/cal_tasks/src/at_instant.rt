@@ -16,8 +16,8 @@ ghost use Rattle.cal_zone.specs.rules.Zone.{zone_of};
 ghost use Rattle.cal_tasks.specs.computed.AtInstant.{elapses_at, line_elapses_at};
 ghost use Rattle.cal_tasks.specs.rules.LoadedElapses.{elapses_in};
 
-use crate::clocked::Clocked;
 use crate::elapses::setting_for;
+use crate::present::Present;
 use cal_elapse::{Masks, next_local};
 use cal_load::LoadedTimer;
 use cal_plan::zone_for;
@@ -28,7 +28,7 @@ use cal_zone::{Instant, PlaceCache, Setting, Zone};
 ///
 /// Elapses are computed after a base, and no instant is before instant 0, so only this test finds an elapse at
 /// instant 0.
-pub(crate) fn is_elapse(at: Clocked<'_>, timer: &LoadedTimer, instant: Instant) -> bool
+pub(crate) fn is_elapse(at: Present<'_>, timer: &LoadedTimer, instant: Instant) -> bool
     ensures { elapses_in at.entry (instant.secs -ℤ pos 1) timer.now
         ≡ cond result (instant.secs ∷ []) [] ++ elapses_in at.entry instant.secs timer.now }
 {

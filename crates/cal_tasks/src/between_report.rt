@@ -4,7 +4,7 @@ ghost use Rattle.std.specs.Prelude.{◌≡◌, ◌++◌, IfOk, OnOk, map, option
 ghost use Rattle.cal_timers_report.specs.rules.ReportView as view;
 ghost use Rattle.cal_tasks.specs.rules.BetweenReport.{AreBetween, named, named_at};
 
-use crate::clocked::Clocked;
+use crate::present::Present;
 use crate::several::elapses_between;
 use crate::timer_elapse::TimerElapse;
 use cal_load::LoadedTimer;
@@ -16,7 +16,7 @@ use std::alloc::{AllocError, Global};
 /// the name of its timer. Elapses at the same instant are in the order of their timers. Fails only if allocation fails.
 pub fn between_rows<'a>(
     alloc: Global,
-    at: Clocked<'_>,
+    at: Present<'_>,
     from: Instant,
     before: Instant,
     timers: &'a [LoadedTimer],

@@ -5,9 +5,9 @@ ghost use Rattle.std.specs.Prelude.{IfOk};
 ghost use Rattle.cal_tasks.specs.rules.DueRun.{IsDueRun};
 
 use crate::at_instant::has_any;
-use crate::clocked::Clocked;
 use crate::elapses::setting_for;
 use crate::past::last_elapse;
+use crate::present::Present;
 use cal_load::LoadedTimer;
 use cal_zone::Instant;
 use std::alloc::{AllocError, Global};
@@ -25,7 +25,7 @@ pub enum DueRun {
 }
 
 /// Returns whether the run that a timer starts now is due. Fails only if allocation fails.
-pub fn due_run(alloc: Global, at: Clocked<'_>, timer: &LoadedTimer) -> Result<DueRun, AllocError>
+pub fn due_run(alloc: Global, at: Present<'_>, timer: &LoadedTimer) -> Result<DueRun, AllocError>
     ensures { IfOk result (IsDueRun at.entry timer.now) }
 {
     let Some(instant) = last_elapse(alloc, at, timer, &[])? else {

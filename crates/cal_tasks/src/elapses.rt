@@ -4,7 +4,7 @@ ghost use Rattle.std.specs.Prelude.{◌≡◌, IfOk, map, take};
 ghost use Rattle.cal_zone.specs.rules.Setting.{setting_seen};
 ghost use Rattle.cal_tasks.specs.rules.LoadedElapses.{elapses_in, setting_for};
 
-use crate::clocked::Clocked;
+use crate::present::Present;
 use cal_elapse::Elapses;
 use cal_load::LoadedTimer;
 use cal_plan::{Instants, PlanFault, merge_of};
@@ -16,7 +16,7 @@ use std::alloc::{AllocError, Global};
 /// allocation fails.
 pub(crate) fn first_elapses(
     alloc: Global,
-    at: Clocked<'_>,
+    at: Present<'_>,
     timer: &LoadedTimer,
     count: u32,
 ) -> Result<Vec<Instant>, AllocError>
@@ -30,7 +30,7 @@ pub(crate) fn first_elapses(
 /// Creates the iterator over the elapses of a timer after `base`. Fails only if allocation fails.
 pub(crate) fn elapses_in<'a>(
     alloc: Global,
-    at: Clocked<'a>,
+    at: Present<'a>,
     base: Instant,
     timer: &'a LoadedTimer,
 ) -> Result<Instants<Merge<Elapses<'a>>>, AllocError>
@@ -51,7 +51,7 @@ pub(crate) fn elapses_in<'a>(
 }
 
 /// Returns the [`Setting`] of a timer: the present, the local zone, and the zones that were loaded for the timer.
-pub(crate) fn setting_for<'a>(at: Clocked<'a>, timer: &'a LoadedTimer) -> Setting<'a>
+pub(crate) fn setting_for<'a>(at: Present<'a>, timer: &'a LoadedTimer) -> Setting<'a>
     ensures seen { setting_seen result ≡ setting_for at.entry timer.now }
     ensures now { result.now ≡ at.entry.now }
 {

@@ -14,9 +14,9 @@ ghost use Rattle.cal_tasks.specs.rules.IdleLines.{elapses_of_line, idle_as, idle
 ghost use Rattle.cal_tasks.specs.rules.LoadedElapses.{lists_of_loaded, setting_for};
 ghost use Rattle.cal_tasks.specs.rules.Midnight.{stops_at_midnight};
 
-use crate::clocked::Clocked;
 use crate::elapses::{setting_for, take_first};
 use crate::midnight::stops_in;
+use crate::present::Present;
 use cal_elapse::Elapses;
 use cal_load::LoadedTimer;
 use cal_plan::{Instants, merge_of, zone_for};
@@ -54,7 +54,7 @@ pub struct IdleLine {
 /// its exceptions are checked. Fails only if allocation fails.
 pub fn idle_lines(
     alloc: Global,
-    at: Clocked<'_>,
+    at: Present<'_>,
     timer: &LoadedTimer,
 ) -> Result<Vec<IdleLine>, AllocError>
     ensures { IfOk result (λ found. found.items

@@ -5,8 +5,8 @@ ghost use Rattle.cal_timers_report.specs.rules.ReportView.{unit_seen};
 ghost use Rattle.cal_tasks.specs.rules.ListReport.{IsListOf, elapsing_row, elapsing_rows, ended_row, ended_rows, failed_rows, list_notes, masked_rows, noted_row, row_if};
 ghost use Rattle.cal_tasks.specs.rules.Unguarded.{unguarded_seen};
 
-use crate::clocked::Clocked;
 use crate::notes::{push_all, push_exceptions_note, push_if};
+use crate::present::Present;
 use crate::several::next_of_timers;
 use crate::timer_elapse::TimerElapse;
 use crate::unguarded::UnguardedTimer;
@@ -25,7 +25,7 @@ use std::alloc::{AllocError, Global};
 /// Fails only if allocation fails.
 pub fn list_rows<'a>(
     alloc: Global,
-    at: Clocked<'_>,
+    at: Present<'_>,
     loaded: &'a Loaded,
     masked: &'a [String],
     unguarded: &[UnguardedTimer],

@@ -10,8 +10,8 @@ ghost use Rattle.cal_tasks.specs.rules.LoadedElapses.{setting_for};
 ghost use Rattle.cal_tasks.specs.rules.Midnight.{is_of_midnight, is_skipped, next_day, skips_midnight, stops_at_midnight};
 
 use crate::at_instant::zone_or_utc;
-use crate::clocked::Clocked;
 use crate::elapses::setting_for;
+use crate::present::Present;
 use cal_civil::DAY;
 use cal_lint::{OpenStepFlaw, open_step_flaw};
 use cal_load::LoadedTimer;
@@ -28,7 +28,7 @@ const DAYS_IN_ALL: u32 = 84_006;
 /// Returns whether systemd 252 fails for an expression of the timer on the day before one of the midnights of the next
 /// three years, because the clock of its zone skips this midnight. `line` is the line of the expression. A zone that
 /// wasn't loaded counts as UTC.
-pub fn stops_at_midnight(at: Clocked<'_>, timer: &LoadedTimer, line: &TimerLine) -> bool
+pub fn stops_at_midnight(at: Present<'_>, timer: &LoadedTimer, line: &TimerLine) -> bool
     ensures { result ≡ stops_at_midnight (setting_for at.entry timer.now) at.entry.now.secs (shown line.now) }
 {
     stops_in(setting_for(at, timer), line)

@@ -8,8 +8,8 @@ ghost use Rattle.cal_tasks.specs.rules.LastElapse.{IsLastOf, timed_lines};
 ghost use Rattle.cal_tasks.specs.rules.LoadedElapses.{setting_for};
 
 use crate::at_instant::elapses_at;
-use crate::clocked::Clocked;
 use crate::elapses::setting_for;
+use crate::present::Present;
 use cal_load::LoadedTimer;
 use cal_plan::{Instants, PlanFault, merge_of};
 use cal_rising::Rising;
@@ -35,7 +35,7 @@ const RANGES: [u32; 7] = [
 /// The timer must have every zone that these exceptions name. Fails only if allocation fails.
 pub(crate) fn last_elapse(
     alloc: Global,
-    at: Clocked<'_>,
+    at: Present<'_>,
     timer: &LoadedTimer,
     exceptions: &[TimerLine],
 ) -> Result<Option<Instant>, AllocError>
@@ -57,7 +57,7 @@ pub(crate) fn last_elapse(
 /// Returns what [`last_elapse`] returns, by searching all instants up to the present.
 fn last_since_1970(
     alloc: Global,
-    at: Clocked<'_>,
+    at: Present<'_>,
     timer: &LoadedTimer,
     exceptions: &[TimerLine],
 ) -> Result<Option<Instant>, AllocError>
@@ -81,7 +81,7 @@ fn last_since_1970(
 /// Returns what [`last_elapse`] returns, or `None` if this instant isn't after `base`.
 fn last_after(
     alloc: Global,
-    at: Clocked<'_>,
+    at: Present<'_>,
     timer: &LoadedTimer,
     exceptions: &[TimerLine],
     base: Instant,

@@ -7,8 +7,8 @@ ghost use Rattle.std.specs.Str.{bytes_eq};
 ghost use Rattle.cal_timers_report.specs.rules.ReportView.{comparison_seen};
 ghost use Rattle.cal_tasks.specs.rules.SameReport.{comparison_of, read_as, settings_only};
 
-use crate::clocked::Clocked;
 use crate::from_crontab::{expression_texts, is_from_crontab};
+use crate::present::Present;
 use crate::several::difference_of;
 use cal_load::LoadedTimer;
 use cal_timers_report::{Comparison, Side};
@@ -23,7 +23,7 @@ use std::alloc::{AllocError, Global};
 /// once for each of the timers. Fails only if allocation fails.
 pub fn compare<'a>(
     alloc: Global,
-    at: Clocked<'_>,
+    at: Present<'_>,
     one: &'a LoadedTimer,
     other: &'a LoadedTimer,
 ) -> Result<Comparison<'a>, AllocError>

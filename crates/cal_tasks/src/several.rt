@@ -7,11 +7,11 @@ ghost use Rattle.cal_tasks.specs.rules.SeveralTimers.{by_instant, elapse_seen, e
 ghost use Rattle.cal_tasks.specs.rules.LoadedElapses.{elapses_in};
 
 use crate::at_instant::is_elapse;
-use crate::clocked::Clocked;
 use crate::difference::{Difference, first_only};
 use crate::elapses::elapses_in;
 use crate::next::{NextOfAll, next_of_all};
 use crate::order::sort_elapses;
+use crate::present::Present;
 use crate::range::add_range;
 use crate::timer_elapse::TimerElapse;
 use cal_elapse::Elapses;
@@ -25,7 +25,7 @@ use std::alloc::{AllocError, Global};
 /// Fails only if allocation fails.
 pub(crate) fn next_of_timers(
     alloc: Global,
-    at: Clocked<'_>,
+    at: Present<'_>,
     timers: &[LoadedTimer],
 ) -> Result<NextOfAll, AllocError>
     ensures sorted { IfOk result (λ next. IsSorted by_instant next.soonest.items) }
@@ -42,7 +42,7 @@ pub(crate) fn next_of_timers(
 /// the index of its timer. Elapses at the same instant are in the order of their timers. Fails only if allocation fails.
 pub(crate) fn elapses_between(
     alloc: Global,
-    at: Clocked<'_>,
+    at: Present<'_>,
     from: Instant,
     before: Instant,
     timers: &[LoadedTimer],
@@ -64,7 +64,7 @@ pub(crate) fn elapses_between(
 /// then it computes all their elapses through 2199, once for each field of the result. Fails only if allocation fails.
 pub(crate) fn difference_of(
     alloc: Global,
-    at: Clocked<'_>,
+    at: Present<'_>,
     one: &LoadedTimer,
     other: &LoadedTimer,
 ) -> Result<Difference, AllocError>
@@ -84,7 +84,7 @@ pub(crate) fn difference_of(
 /// `None` if there is no such instant.
 fn first_only_of(
     alloc: Global,
-    at: Clocked<'_>,
+    at: Present<'_>,
     one: &LoadedTimer,
     other: &LoadedTimer,
 ) -> Result<Option<Instant>, AllocError>
@@ -100,7 +100,7 @@ fn first_only_of(
 /// Creates one iterator for each timer, over the timer's elapses after `base`.
 fn elapses_of_timers<'a>(
     alloc: Global,
-    at: Clocked<'a>,
+    at: Present<'a>,
     base: Instant,
     timers: &'a [LoadedTimer],
 ) -> Result<Vec<Instants<Merge<Elapses<'a>>>>, AllocError>
@@ -119,7 +119,7 @@ fn elapses_of_timers<'a>(
 /// then those of the second timer, and so on.
 fn ranges_of_timers(
     alloc: Global,
-    at: Clocked<'_>,
+    at: Present<'_>,
     from: Instant,
     before: Instant,
     timers: &[LoadedTimer],

@@ -11,11 +11,11 @@ ghost use Rattle.cal_tasks.specs.rules.Unguarded.{unguarded_seen};
 ghost use Rattle.std.specs.Option.{option_map};
 
 use crate::clock_note::{ClockChange, ClockNote};
-use crate::clocked::Clocked;
 use crate::elapses::first_elapses;
 use crate::from_crontab::is_from_crontab;
 use crate::notes::{push_all, push_exceptions_note, push_if};
 use crate::past::last_elapse;
+use crate::present::Present;
 use crate::skipped::clock_notes;
 use crate::unguarded::UnguardedTimer;
 use cal_load::LoadedTimer;
@@ -27,7 +27,7 @@ use std::alloc::{AllocError, Global};
 /// ignores the exceptions if the timer is one of the `unguarded` timers. Fails only if allocation fails.
 pub fn shown_timer<'a>(
     alloc: Global,
-    at: Clocked<'_>,
+    at: Present<'_>,
     timer: &'a LoadedTimer,
     warnings: Vec<String>,
     unguarded: &[UnguardedTimer],

@@ -17,9 +17,9 @@ ghost use Rattle.cal_tasks.specs.computed.KeptNotes.{AreInOneZone, KeepsAllBefor
 
 use crate::clock_note::{ClockNote, ClockNotes};
 use crate::clock_shift::{is_changed, shift_of};
-use crate::clocked::Clocked;
 use crate::elapses::setting_for;
 use crate::kept_notes::{MAX_NOTES, are_enough, keep};
+use crate::present::Present;
 use crate::zone_change::next_change;
 use cal_civil::LOCAL_END;
 use cal_elapse::{Masks, next_local};
@@ -39,7 +39,7 @@ use std::alloc::{AllocError, Global};
 /// are more than 16. Fails only if allocation fails.
 pub(crate) fn clock_notes(
     alloc: Global,
-    at: Clocked<'_>,
+    at: Present<'_>,
     timer: &LoadedTimer,
 ) -> Result<ClockNotes, AllocError>
     ensures notes { IfOk result (λ notes. All

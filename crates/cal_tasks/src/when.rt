@@ -6,7 +6,7 @@ ghost use Rattle.cal_spec.specs.rules.WeekdayNames.{leading_letters};
 ghost use Rattle.cal_bytes.specs.rules.Separators.{words};
 ghost use Rattle.cal_tasks.specs.rules.When.{IsUnlessNoMemory, begin_with_weekday, fields_unless_dated, first_elapse, first_if_some, is_dated, next_weekday_time, setting_with, weekday_time_in, when_in};
 
-use crate::clocked::Clocked;
+use crate::present::Present;
 use cal_bytes::first_word;
 use cal_elapse::Elapses;
 use cal_plan::{Instants, zone_for};
@@ -50,7 +50,7 @@ impl From<AllocError> for WhenFault {
 /// [`WhenFault::NoMemory`] if allocation fails; this error doesn't say whether the text is valid.
 pub fn read_when(
     alloc: Global,
-    at: Clocked<'_>,
+    at: Present<'_>,
     zones: &ZoneTable,
     after: Instant,
     text: &str,

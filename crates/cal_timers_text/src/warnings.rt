@@ -9,7 +9,7 @@ ghost use Rattle.cal_timers_text.specs.rules.Warnings.{abbreviation_warning, fla
 use crate::messages::flaw_words;
 use cal_lint::{OpenStepFlaw, looks_like_abbreviation, open_step_flaw, reported_flaw};
 use cal_load::LoadedTimer;
-use cal_tasks::{Clocked, stops_at_midnight};
+use cal_tasks::{Present, stops_at_midnight};
 use cal_timer::TimerLine;
 use std::alloc::{AllocError, Global};
 
@@ -24,7 +24,7 @@ const ABBREVIATION: &str =
 /// only if allocation fails.
 pub fn warnings_of(
     alloc: Global,
-    at: Clocked<'_>,
+    at: Present<'_>,
     timer: &LoadedTimer,
 ) -> Result<Vec<String>, AllocError>
     ensures { IfOk result (λ found. map string_bytes found.items
@@ -39,7 +39,7 @@ pub fn warnings_of(
 fn push_warnings(
     alloc: Global,
     warnings: &mut Vec<String>,
-    at: Clocked<'_>,
+    at: Present<'_>,
     timer: &LoadedTimer,
     lines: &[TimerLine],
 ) -> Result<(), AllocError>
@@ -55,7 +55,7 @@ fn push_warnings(
 fn push_warnings_on(
     alloc: Global,
     warnings: &mut Vec<String>,
-    at: Clocked<'_>,
+    at: Present<'_>,
     timer: &LoadedTimer,
     line: &TimerLine,
 ) -> Result<(), AllocError>
@@ -75,7 +75,7 @@ fn push_warnings_on(
 
 /// Returns [`OpenStepFlaw::FailsAtMidnightChanges`] if systemd 252 fails for the expression on `line` because clocks
 /// skip a midnight ([`stops_at_midnight`]).
-fn midnight_flaw(at: Clocked<'_>, timer: &LoadedTimer, line: &TimerLine) -> Option<OpenStepFlaw>
+fn midnight_flaw(at: Present<'_>, timer: &LoadedTimer, line: &TimerLine) -> Option<OpenStepFlaw>
     ensures { result ≡ midnight_flaw (setting_for at.entry timer.now) at.entry.now.secs (shown line.now) }
 {
     if stops_at_midnight(at, timer, line) {

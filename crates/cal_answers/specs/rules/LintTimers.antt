@@ -21,7 +21,7 @@ use Rattle.cal_load.specs.rules.IgnoredSettings.{ignored_settings_in}
 use Rattle.cal_load.specs.rules.StartedUnit.{is_missing_on, started_unit_of}
 use Rattle.cal_machine.specs.rules.Machine.{Machine}
 use Rattle.cal_spec.specs.rules.SpecFault.{message_of}
-use Rattle.cal_tasks.specs.declared.clocked.Clocked.{Clocked}
+use Rattle.cal_tasks.specs.declared.present.Present.{Present}
 use Rattle.cal_tasks.specs.declared.idle.IdleLine.{IdleLine}
 use Rattle.cal_tasks.specs.rules.IdleLines.{idle_lines}
 use Rattle.cal_tasks.specs.rules.LoadedElapses.{lists_of_loaded, setting_for}
@@ -130,7 +130,7 @@ idle_line timer idle =
     let place = place_in (string_bytes timer.name) timer.files idle.number in
     in_line Warning place.0 place.1 (idle_message idle.kind) Same
 
-abbrev pub idle_of : Clocked → LoadedTimer → List Candidate
+abbrev pub idle_of : Present → LoadedTimer → List Candidate
 idle_of at timer =
     map (idle_line timer) (idle_lines (setting_for at timer) at.now.secs (lists_of_loaded timer.calendar))
 
@@ -138,7 +138,7 @@ idle_of at timer =
 
 -- what is wrong with the timers that fail to load, what systemd ignores in the other timers, the timers whose unit is
 -- missing on this machine and search path, and the lines without effect
-abbrev pub problems_of_timers : Clocked → Machine → List (List ℕ) → Loaded → List Candidate
+abbrev pub problems_of_timers : Present → Machine → List (List ℕ) → Loaded → List Candidate
 problems_of_timers at machine path loaded =
     flat_map failed loaded.faults.items
     ++ (flat_map ignored_of loaded.timers.items

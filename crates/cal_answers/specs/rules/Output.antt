@@ -48,7 +48,7 @@ use Rattle.cal_timers_report.specs.rules.ShowText.{show_lines}
 use Rattle.cal_timers_text.specs.rules.Warnings.{warnings_in}
 use Rattle.cal_unit_index.specs.declared.index.UnitIndex.{UnitIndex}
 use Rattle.cal_zone.specs.rules.Zone.{zone_of}
-use Rattle.cal_answers.specs.declared.answer.Asked.{Asked}
+use Rattle.cal_answers.specs.declared.answer.Context.{Context}
 use Rattle.cal_answers.specs.declared.crontab_timers.CrontabTimers.{CrontabTimers}
 use Rattle.cal_answers.specs.declared.found.Found as founds
 use Rattle.cal_answers.specs.declared.found.Known.{Known}
@@ -73,73 +73,73 @@ abbrev pub listed_masked : {X : Type 0} → List X → Bool → Loaded → List 
 listed_masked named is_all loaded =
     if is_all || not (length named == 0) then map string_bytes loaded.masked.items else []
 
-abbrev pub list_output : Asked → List UnitView → List ℕ
-list_output asked rows =
-    if asked.is_json then list_document asked.shown.local asked.shown.now.secs rows
-    else list_table asked.style asked.shown.local asked.shown.now.secs rows
+abbrev pub list_output : Context → List UnitView → List ℕ
+list_output context rows =
+    if context.is_json then list_document context.shown.local context.shown.now.secs rows
+    else list_table context.style context.shown.local context.shown.now.secs rows
 
 -- the second of the next elapse; a row without one counts as later than all others
 abbrev pub next_second : ListRow → ℤ
 next_second row = option_map_or (λ instant. instant.secs) row.next (pos 9_223_372_036_854_775_807)
 
 -- the rows are those of the timers and of these masked units
-abbrev pub AreTimerRows : Asked → Loaded → List (List ℕ) → List ListRow → Type 0
-AreTimerRows asked loaded masked rows =
-    IsListOf asked.at loaded masked (map unguarded_seen asked.unguarded.now) (map unit_seen rows)
+abbrev pub AreTimerRows : Context → Loaded → List (List ℕ) → List ListRow → Type 0
+AreTimerRows context loaded masked rows =
+    IsListOf context.at loaded masked (map unguarded_seen context.unguarded.now) (map unit_seen rows)
 
 -- the rows are those of the timers and of these masked units and, if crontabs are asked for, those of their entries,
 -- soonest first
-abbrev pub AreListRows : Asked → Loaded → List (List ℕ) → Option CrontabTimers → List ListRow → Type 0
-AreListRows asked loaded masked None rows = AreTimerRows asked loaded masked rows
-AreListRows asked loaded masked (Some entries) rows =
-    (units others : List ListRow) × AreTimerRows asked loaded masked units
-    × IsListOf asked.at entries.timers [] [] (map unit_seen others) × AreMerged next_second units others rows
+abbrev pub AreListRows : Context → Loaded → List (List ℕ) → Option CrontabTimers → List ListRow → Type 0
+AreListRows context loaded masked None rows = AreTimerRows context loaded masked rows
+AreListRows context loaded masked (Some entries) rows =
+    (units others : List ListRow) × AreTimerRows context loaded masked units
+    × IsListOf context.at entries.timers [] [] (map unit_seen others) × AreMerged next_second units others rows
 
 -- the output lists the timers, these masked units, and the entries of crontabs, if these are asked for
-abbrev pub IsListOutput : Asked → Loaded → List (List ℕ) → Option CrontabTimers → List ℕ → Type 0
-IsListOutput asked loaded masked entries out =
-    (rows : List ListRow) × AreListRows asked loaded masked entries rows × (out ≡ list_output asked (map unit_seen rows))
+abbrev pub IsListOutput : Context → Loaded → List (List ℕ) → Option CrontabTimers → List ℕ → Type 0
+IsListOutput context loaded masked entries out =
+    (rows : List ListRow) × AreListRows context loaded masked entries rows × (out ≡ list_output context (map unit_seen rows))
 
-abbrev pub show_output : Asked → List TimerView → List (List ℕ) → List ℕ
-show_output asked timers masked =
-    if asked.is_json then show_document asked.shown.local asked.shown.now.secs timers
-    else show_lines asked.style asked.shown.local asked.shown.now.secs timers masked
+abbrev pub show_output : Context → List TimerView → List (List ℕ) → List ℕ
+show_output context timers masked =
+    if context.is_json then show_document context.shown.local context.shown.now.secs timers
+    else show_lines context.style context.shown.local context.shown.now.secs timers masked
 
 -- the report of a timer, with its warnings and at most `count` elapses
-abbrev pub IsShownAs : Asked → ℕ → LoadedTimer → TimerView → Type 0
-IsShownAs asked count timer view =
-    IsShownTimer asked.at count (warnings_in (setting_for asked.at timer) asked.at.now.secs (expressions_in timer.calendar))
-    (map unguarded_seen asked.unguarded.now) timer view
+abbrev pub IsShownAs : Context → ℕ → LoadedTimer → TimerView → Type 0
+IsShownAs context count timer view =
+    IsShownTimer context.at count (warnings_in (setting_for context.at timer) context.at.now.secs (expressions_in timer.calendar))
+    (map unguarded_seen context.unguarded.now) timer view
 
-abbrev pub IsShowOutput : Asked → ℕ → Loaded → List ℕ → Type 0
-IsShowOutput asked count loaded out =
-    (timers : List TimerView) × AllZip (IsShownAs asked count) loaded.timers.items timers
-    × (out ≡ show_output asked timers (map string_bytes loaded.masked.items))
+abbrev pub IsShowOutput : Context → ℕ → Loaded → List ℕ → Type 0
+IsShowOutput context count loaded out =
+    (timers : List TimerView) × AllZip (IsShownAs context count) loaded.timers.items timers
+    × (out ≡ show_output context timers (map string_bytes loaded.masked.items))
 
-abbrev pub between_output : Asked → List ElapseView → List ℕ
-between_output asked rows =
-    if asked.is_json then between_document asked.shown.local rows else between_lines asked.shown.local rows
+abbrev pub between_output : Context → List ElapseView → List ℕ
+between_output context rows =
+    if context.is_json then between_document context.shown.local rows else between_lines context.shown.local rows
 
 abbrev pub elapse_second : UnitElapse → ℤ
 elapse_second elapse = elapse.instant.secs
 
 -- the rows are the elapses of the timers in the range and, if crontabs are asked for, those of their entries, in
 -- increasing order
-abbrev pub AreBetweenRows : Asked → Loaded → Option CrontabTimers → ℤ → ℤ → List UnitElapse → Type 0
-AreBetweenRows asked loaded None from before rows = AreBetween asked.at from before loaded.timers.items (map elapse_seen rows)
-AreBetweenRows asked loaded (Some entries) from before rows =
-    (units others : List UnitElapse) × AreBetween asked.at from before loaded.timers.items (map elapse_seen units)
-    × AreBetween asked.at from before entries.timers.timers.items (map elapse_seen others) × AreMerged elapse_second units others rows
+abbrev pub AreBetweenRows : Context → Loaded → Option CrontabTimers → ℤ → ℤ → List UnitElapse → Type 0
+AreBetweenRows context loaded None from before rows = AreBetween context.at from before loaded.timers.items (map elapse_seen rows)
+AreBetweenRows context loaded (Some entries) from before rows =
+    (units others : List UnitElapse) × AreBetween context.at from before loaded.timers.items (map elapse_seen units)
+    × AreBetween context.at from before entries.timers.timers.items (map elapse_seen others) × AreMerged elapse_second units others rows
 
 -- the output has the elapses in the range of the timers, and of the entries of crontabs, if these are asked for
-abbrev pub IsBetweenOutput : Asked → Loaded → Option CrontabTimers → ℤ → ℤ → List ℕ → Type 0
-IsBetweenOutput asked loaded entries from before out =
-    (rows : List UnitElapse) × AreBetweenRows asked loaded entries from before rows × (out ≡ between_output asked (map elapse_seen rows))
+abbrev pub IsBetweenOutput : Context → Loaded → Option CrontabTimers → ℤ → ℤ → List ℕ → Type 0
+IsBetweenOutput context loaded entries from before out =
+    (rows : List UnitElapse) × AreBetweenRows context loaded entries from before rows × (out ≡ between_output context (map elapse_seen rows))
 
-abbrev pub IsRangeAnswer : Asked → Loaded → Option CrontabTimers → ℤ → ℤ → Bool → Printed → Type 0
-IsRangeAnswer asked loaded entries from before true printed = IsStopped (codes "TO is before FROM") printed
-IsRangeAnswer asked loaded entries from before false printed =
-    (answer : Printed) × IsBetweenOutput asked loaded entries from before answer.out × HasLoadedLines loaded answer
+abbrev pub IsRangeAnswer : Context → Loaded → Option CrontabTimers → ℤ → ℤ → Bool → Printed → Type 0
+IsRangeAnswer context loaded entries from before true printed = IsStopped (codes "TO is before FROM") printed
+IsRangeAnswer context loaded entries from before false printed =
+    (answer : Printed) × IsBetweenOutput context loaded entries from before answer.out × HasLoadedLines loaded answer
     × HasCrontabLines entries answer printed
 
 -- the reason why a time can't be used: its text and the error
@@ -152,22 +152,22 @@ IsStoppedBy text (NoInstant fault) printed = IsStopped (bad_time text fault) pri
 IsStoppedBy text NoMemory printed = ⊥
 
 -- the answer for a range that starts at `from`, given the result of resolving its end, the text `before`
-abbrev pub IsAnswerUntil : Asked → Loaded → Option CrontabTimers → ℤ → List ℕ → Result ℤ StampFault → Printed → Type 0
-IsAnswerUntil asked loaded entries from before (Err fault) printed = IsStopped (bad_time before fault) printed
-IsAnswerUntil asked loaded entries from before (Ok end) printed = IsRangeAnswer asked loaded entries from end (int_lt end from) printed
+abbrev pub IsAnswerUntil : Context → Loaded → Option CrontabTimers → ℤ → List ℕ → Result ℤ StampFault → Printed → Type 0
+IsAnswerUntil context loaded entries from before (Err fault) printed = IsStopped (bad_time before fault) printed
+IsAnswerUntil context loaded entries from before (Ok end) printed = IsRangeAnswer context loaded entries from end (int_lt end from) printed
 
 -- the answer for a range between these two texts, given the result of resolving its start; an end such as `Mon 06:00`
 -- is the first such time after the start
-abbrev pub IsAnswerFrom : Asked → Loaded → Option CrontabTimers → List ℕ → List ℕ → Result ℤ StampFault → Printed → Type 0
-IsAnswerFrom asked loaded entries from before (Err fault) printed = IsStopped (bad_time from fault) printed
-IsAnswerFrom asked loaded entries from before (Ok start) printed =
-    IsAnswerUntil asked loaded entries start before (when_in asked.shown.now.secs (setting_with asked.shown asked.range.now.before) start before) printed
+abbrev pub IsAnswerFrom : Context → Loaded → Option CrontabTimers → List ℕ → List ℕ → Result ℤ StampFault → Printed → Type 0
+IsAnswerFrom context loaded entries from before (Err fault) printed = IsStopped (bad_time from fault) printed
+IsAnswerFrom context loaded entries from before (Ok start) printed =
+    IsAnswerUntil context loaded entries start before (when_in context.shown.now.secs (setting_with context.shown context.range.now.before) start before) printed
 
 -- the answer for the range that begins at the time `from` and ends at the time `before`, which are texts
-abbrev pub IsBetweenAnswer : Asked → Loaded → Option CrontabTimers → List ℕ → List ℕ → Printed → Type 0
-IsBetweenAnswer asked loaded entries from before printed =
-    IsAnswerFrom asked loaded entries from before
-    (when_in asked.shown.now.secs (setting_with asked.shown asked.range.now.from) asked.shown.now.secs from) printed
+abbrev pub IsBetweenAnswer : Context → Loaded → Option CrontabTimers → List ℕ → List ℕ → Printed → Type 0
+IsBetweenAnswer context loaded entries from before printed =
+    IsAnswerFrom context loaded entries from before
+    (when_in context.shown.now.secs (setting_with context.shown context.range.now.from) context.shown.now.secs from) printed
 
 -- whether the name of the timer is the target itself, slashes at its end aside; the timers of a folder have other names
 abbrev pub is_named : List ℕ → LoadedTimer → Bool
@@ -193,9 +193,9 @@ folder_of_both one other first second = option_or (if_folder one first) (if_fold
 abbrev pub not_a_timer : List ℕ → List ℕ
 not_a_timer folder = folder ++ codes ": a directory, not a timer"
 
-abbrev pub same_output : Asked → ComparisonView → List ℕ
-same_output asked found =
-    if asked.is_json then same_document asked.shown.local found else same_lines asked.shown.local found
+abbrev pub same_output : Context → ComparisonView → List ℕ
+same_output context found =
+    if context.is_json then same_document context.shown.local found else same_lines context.shown.local found
 
 -- whether both timers elapse at the same instants
 abbrev pub is_same : ComparisonView → Bool
@@ -203,9 +203,9 @@ is_same found = is_none found.one.only && is_none found.other.only
 
 -- the comparison of two timers, printed with these error lines; the exit status is 0 if there are no error lines and
 -- both timers elapse at the same instants, and otherwise 1
-abbrev pub IsComparedAnswer : Asked → List ℕ → ComparisonView → Printed → Type 0
-IsComparedAnswer asked lines found printed =
-    (printed.out ≡ same_output asked found) × (printed.err ≡ lines)
+abbrev pub IsComparedAnswer : Context → List ℕ → ComparisonView → Printed → Type 0
+IsComparedAnswer context lines found printed =
+    (printed.out ≡ same_output context found) × (printed.err ≡ lines)
     × (printed.status ≡ (if is_same found && length lines == 0 then 0 else 1))
 
 -- the answer if one of the two timers wasn't loaded: error lines, among them one for each masked unit
@@ -215,25 +215,25 @@ IsUnloadedPair first second printed =
     × (printed.err ≡ lines_of_both first second ++ masked_lines (map string_bytes first.masked.items) ++ masked_lines (map string_bytes second.masked.items))
     × (printed.status ≡ 2)
 
-abbrev pub IsPairAnswer : Asked → Loaded → Loaded → Option LoadedTimer → Option LoadedTimer → Printed → Type 0
-IsPairAnswer asked first second None other printed = IsUnloadedPair first second printed
-IsPairAnswer asked first second (Some one) None printed = IsUnloadedPair first second printed
-IsPairAnswer asked first second (Some one) (Some other) printed =
-    IsComparedAnswer asked (lines_of_both first second) (comparison_of asked.at one other) printed
+abbrev pub IsPairAnswer : Context → Loaded → Loaded → Option LoadedTimer → Option LoadedTimer → Printed → Type 0
+IsPairAnswer context first second None other printed = IsUnloadedPair first second printed
+IsPairAnswer context first second (Some one) None printed = IsUnloadedPair first second printed
+IsPairAnswer context first second (Some one) (Some other) printed =
+    IsComparedAnswer context (lines_of_both first second) (comparison_of context.at one other) printed
 
-abbrev pub IsSameUnless : Option (List ℕ) → Asked → Loaded → Loaded → Printed → Type 0
-IsSameUnless (Some folder) asked first second printed = IsStopped (not_a_timer folder) printed
-IsSameUnless None asked first second printed =
-    IsPairAnswer asked first second (slice_get first.timers.items 0) (slice_get second.timers.items 0) printed
+abbrev pub IsSameUnless : Option (List ℕ) → Context → Loaded → Loaded → Printed → Type 0
+IsSameUnless (Some folder) context first second printed = IsStopped (not_a_timer folder) printed
+IsSameUnless None context first second printed =
+    IsPairAnswer context first second (slice_get first.timers.items 0) (slice_get second.timers.items 0) printed
 
 -- the comparison of the two timers, unless one of the targets `one` and `other` is a folder
-abbrev pub IsSameAnswer : Asked → List ℕ → List ℕ → Loaded → Loaded → Printed → Type 0
-IsSameAnswer asked one other first second printed =
-    IsSameUnless (folder_of_both one other first second) asked first second printed
+abbrev pub IsSameAnswer : Context → List ℕ → List ℕ → Loaded → Loaded → Printed → Type 0
+IsSameAnswer context one other first second printed =
+    IsSameUnless (folder_of_both one other first second) context first second printed
 
-abbrev pub due_output : Asked → DueView → List ℕ
-due_output asked report =
-    if asked.is_json then due_document asked.shown.local report else due_line asked.shown.local report
+abbrev pub due_output : Context → DueView → List ℕ
+due_output context report =
+    if context.is_json then due_document context.shown.local report else due_line context.shown.local report
 
 -- the report of a run that no timer started
 abbrev pub by_hand : DueView
@@ -251,9 +251,9 @@ status_of (runs.Due instant) = 0
 status_of (runs.Excepted instant) = 1
 status_of runs.NotElapsed = 1
 
-abbrev pub IsTimerDue : Asked → Loaded → LoadedTimer → DueRun → Printed → Type 0
-IsTimerDue asked loaded timer run printed =
-    IsDueRun asked.at timer run × (printed.out ≡ due_output asked (due_view (string_bytes timer.name) run))
+abbrev pub IsTimerDue : Context → Loaded → LoadedTimer → DueRun → Printed → Type 0
+IsTimerDue context loaded timer run printed =
+    IsDueRun context.at timer run × (printed.out ≡ due_output context (due_view (string_bytes timer.name) run))
     × (printed.err ≡ loaded_lines loaded) × (printed.status ≡ max (status_by printed.err) (status_of run))
 
 abbrev pub unloaded_lines : Loaded → List ℕ
@@ -268,91 +268,91 @@ IsUnloadedBy false lines printed = (printed.out ≡ []) × (printed.err ≡ line
 abbrev pub IsUnloaded : Loaded → Printed → Type 0
 IsUnloaded loaded printed = IsUnloadedBy (length (unloaded_lines loaded) == 0) (unloaded_lines loaded) printed
 
-abbrev pub IsFirstDue : Asked → Loaded → Option LoadedTimer → Printed → Type 0
-IsFirstDue asked loaded None printed = IsUnloaded loaded printed
-IsFirstDue asked loaded (Some timer) printed = (run : DueRun) × IsTimerDue asked loaded timer run printed
+abbrev pub IsFirstDue : Context → Loaded → Option LoadedTimer → Printed → Type 0
+IsFirstDue context loaded None printed = IsUnloaded loaded printed
+IsFirstDue context loaded (Some timer) printed = (run : DueRun) × IsTimerDue context loaded timer run printed
 
 abbrev pub folder_of : Option (List ℕ) → Loaded → Option (List ℕ)
 folder_of None loaded = None
 folder_of (Some target) loaded = if_folder target loaded
 
-abbrev pub IsDueUnless : Option (List ℕ) → Asked → Loaded → Printed → Type 0
-IsDueUnless (Some folder) asked loaded printed = IsStopped (not_a_timer folder) printed
-IsDueUnless None asked loaded printed = IsFirstDue asked loaded (slice_get loaded.timers.items 0) printed
+abbrev pub IsDueUnless : Option (List ℕ) → Context → Loaded → Printed → Type 0
+IsDueUnless (Some folder) context loaded printed = IsStopped (not_a_timer folder) printed
+IsDueUnless None context loaded printed = IsFirstDue context loaded (slice_get loaded.timers.items 0) printed
 
 -- the report about the run that the timer started, unless the timer that was named is a folder; a run that no timer
 -- started is due
-abbrev pub IsDueAnswer : Asked → Option (List ℕ) → Option Loaded → Printed → Type 0
-IsDueAnswer asked named None printed = (printed.out ≡ due_output asked by_hand) × (printed.err ≡ []) × (printed.status ≡ 0)
-IsDueAnswer asked named (Some loaded) printed = IsDueUnless (folder_of named loaded) asked loaded printed
+abbrev pub IsDueAnswer : Context → Option (List ℕ) → Option Loaded → Printed → Type 0
+IsDueAnswer context named None printed = (printed.out ≡ due_output context by_hand) × (printed.err ≡ []) × (printed.status ≡ 0)
+IsDueAnswer context named (Some loaded) printed = IsDueUnless (folder_of named loaded) context loaded printed
 
-abbrev pub cron_output : Asked → List EntryView → List ℕ
-cron_output asked entries = if asked.is_json then entries_document entries else entries_text entries
+abbrev pub cron_output : Context → List EntryView → List ℕ
+cron_output context entries = if context.is_json then entries_document entries else entries_text entries
 
 -- The entries of crontabs, with the error lines about entries that aren't valid, and then about crontabs that can't be
 -- read. `read` reads the time fields.
-abbrev pub IsCronAnswerBy : (List ℕ → Result CronExprs CronFault) → Asked → Crontabs → Printed → Type 0
-IsCronAnswerBy read asked crontabs printed =
+abbrev pub IsCronAnswerBy : (List ℕ → Result CronExprs CronFault) → Context → Crontabs → Printed → Type 0
+IsCronAnswerBy read context crontabs printed =
     let invalid = flat_map (error_lines_of read) (map shown_crontab crontabs.crontabs.items) in
     printed ≡ with_errors (unreadable_lines crontabs.faults.items) (record {
-      out = cron_output asked (flat_map (entries_of read) (map shown_crontab crontabs.crontabs.items));
+      out = cron_output context (flat_map (entries_of read) (map shown_crontab crontabs.crontabs.items));
       err = invalid;
       status = status_by invalid;
     })
 
 -- the answer about crontabs, whose time fields are read as crontab(5) says
-abbrev pub IsCronAnswer : Asked → Crontabs → Printed → Type 0
-IsCronAnswer asked crontabs printed =
-    (read : (List ℕ → Result CronExprs CronFault)) × ReadsTimes read × IsCronAnswerBy read asked crontabs printed
+abbrev pub IsCronAnswer : Context → Crontabs → Printed → Type 0
+IsCronAnswer context crontabs printed =
+    (read : (List ℕ → Result CronExprs CronFault)) × ReadsTimes read × IsCronAnswerBy read context crontabs printed
 
 -- ## The answer
 
-abbrev pub IsListAnswer : {X : Type 0} → Asked → List X → Bool → Loaded → Option CrontabTimers → Printed → Type 0
-IsListAnswer asked named is_all loaded entries printed =
-    (answer : Printed) × IsListOutput asked loaded (listed_masked named is_all loaded) entries answer.out
+abbrev pub IsListAnswer : {X : Type 0} → Context → List X → Bool → Loaded → Option CrontabTimers → Printed → Type 0
+IsListAnswer context named is_all loaded entries printed =
+    (answer : Printed) × IsListOutput context loaded (listed_masked named is_all loaded) entries answer.out
     × HasLoadedLines loaded answer × HasCrontabLines entries answer printed
 
-abbrev pub IsShowAnswer : Asked → ℕ → Loaded → Printed → Type 0
-IsShowAnswer asked count loaded printed = IsShowOutput asked count loaded printed.out × HasLoadedLines loaded printed
+abbrev pub IsShowAnswer : Context → ℕ → Loaded → Printed → Type 0
+IsShowAnswer context count loaded printed = IsShowOutput context count loaded printed.out × HasLoadedLines loaded printed
 
 -- the problems of the files, the crontabs and the timers, with the error lines about what can't be read; `index` is the
 -- index of the search path
-abbrev pub IsLintAnswer : Asked → Bool → UnitIndex → LoadedFiles → Loaded → Crontabs → Printed → Type 0
-IsLintAnswer asked is_strict index files timers crontabs printed =
-    IsLintBy asked is_strict index files timers crontabs printed.out printed.err printed.status
+abbrev pub IsLintAnswer : Context → Bool → UnitIndex → LoadedFiles → Loaded → Crontabs → Printed → Type 0
+IsLintAnswer context is_strict index files timers crontabs printed =
+    IsLintBy context is_strict index files timers crontabs printed.out printed.err printed.status
     × (printed.err ≡ lint_lines files.faults.items timers.faults.items crontabs.faults.items)
 
 -- what a verb answers for what was loaded
-abbrev pub IsVerbAnswer : Asked → UnitIndex → LoadedByVerb → Printed → Type 0
-IsVerbAnswer asked index (loads.List timers named is_all entries) printed = IsListAnswer asked named.now is_all timers entries printed
-IsVerbAnswer asked index (loads.Show timers named count) printed = IsShowAnswer asked count timers printed
-IsVerbAnswer asked index (loads.Lint files timers crontabs named is_strict) printed = IsLintAnswer asked is_strict index files timers crontabs printed
-IsVerbAnswer asked index (loads.Between timers named from to entries) printed = IsBetweenAnswer asked timers entries from.now to.now printed
-IsVerbAnswer asked index (loads.Same first one second other) printed = IsSameAnswer asked one.now other.now first second printed
-IsVerbAnswer asked index (loads.Next timers expressions count) printed = IsShowAnswer asked count timers printed
-IsVerbAnswer asked index (loads.Due timer named) printed = IsDueAnswer asked (option_map (λ name. name.now) named) timer printed
-IsVerbAnswer asked index (loads.Cron crontabs named) printed = IsCronAnswer asked crontabs printed
+abbrev pub IsVerbAnswer : Context → UnitIndex → LoadedByVerb → Printed → Type 0
+IsVerbAnswer context index (loads.List timers named is_all entries) printed = IsListAnswer context named.now is_all timers entries printed
+IsVerbAnswer context index (loads.Show timers named count) printed = IsShowAnswer context count timers printed
+IsVerbAnswer context index (loads.Lint files timers crontabs named is_strict) printed = IsLintAnswer context is_strict index files timers crontabs printed
+IsVerbAnswer context index (loads.Between timers named from to entries) printed = IsBetweenAnswer context timers entries from.now to.now printed
+IsVerbAnswer context index (loads.Same first one second other) printed = IsSameAnswer context one.now other.now first second printed
+IsVerbAnswer context index (loads.Next timers expressions count) printed = IsShowAnswer context count timers printed
+IsVerbAnswer context index (loads.Due timer named) printed = IsDueAnswer context (option_map (λ name. name.now) named) timer printed
+IsVerbAnswer context index (loads.Cron crontabs named) printed = IsCronAnswer context crontabs printed
 
 -- What all verbs need to know (`asked`) agrees with the options, with what is known, and with the style of the output.
-pub record IsAskedBy (options : Options) (known : Known) (style : Style) (asked : Asked) : Type 0 where
-  pub now : asked.at.now ≡ known.now
-  pub local : clock_zone known.local ≡ Some (zone_of asked.at.local)
-  pub shown_now : asked.shown.now ≡ known.now
-  pub shown : clock_zone known.shown ≡ Some (zone_of asked.shown.local)
-  pub range : asked.range.now ≡ known.range
-  pub unguarded : asked.unguarded.now ≡ known.unguarded.items
-  pub is_user : asked.is_user ≡ options.is_user
-  pub is_json : asked.is_json ≡ options.is_json
-  pub styled : asked.style ≡ style
+pub record IsContextOf (options : Options) (known : Known) (style : Style) (context : Context) : Type 0 where
+  pub now : context.at.now ≡ known.now
+  pub local : clock_zone known.local ≡ Some (zone_of context.at.local)
+  pub shown_now : context.shown.now ≡ known.now
+  pub shown : clock_zone known.shown ≡ Some (zone_of context.shown.local)
+  pub range : context.range.now ≡ known.range
+  pub unguarded : context.unguarded.now ≡ known.unguarded.items
+  pub is_user : context.is_user ≡ options.is_user
+  pub is_json : context.is_json ≡ options.is_json
+  pub styled : context.style ≡ style
 
 -- the answer of the verb to what is known, followed by the error lines that `with_common_lines` adds
-abbrev pub IsAnswerAsked : Known → Asked → Printed → Type 0
-IsAnswerAsked known asked printed =
-    (answer : Printed) × IsVerbAnswer asked known.index known.loaded answer × (printed ≡ with_common_lines known answer)
+abbrev pub IsAnswerIn : Known → Context → Printed → Type 0
+IsAnswerIn known context printed =
+    (answer : Printed) × IsVerbAnswer context known.index known.loaded answer × (printed ≡ with_common_lines known answer)
 
 abbrev pub IsAnswerFor : Options → Known → Style → Printed → Type 0
 IsAnswerFor options known style printed =
-    (asked : Asked) × IsAskedBy options known style asked × IsAnswerAsked known asked printed
+    (context : Context) × IsContextOf options known style context × IsAnswerIn known context printed
 
 -- The answer to what is known. If a zone isn't known, there is only an error line.
 abbrev pub IsAnswerToKnown : Options → Known → Style → Printed → Type 0

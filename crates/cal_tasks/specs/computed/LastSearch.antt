@@ -3,7 +3,7 @@ use Rattle.std.specs.Prelude.{ℤ, ◌<ℤ◌, ◌≤ℤ◌, List, Option, None,
 use Rattle.cal_elapse.specs.rules.Elapses.{Timed}
 use Rattle.cal_load.specs.declared.loaded.LoadedTimer.{LoadedTimer}
 use Rattle.cal_rising.specs.rules.Elements.{Has}
-use Rattle.cal_tasks.specs.declared.clocked.Clocked.{Clocked}
+use Rattle.cal_tasks.specs.declared.present.Present.{Present}
 use Rattle.cal_tasks.specs.rules.LastElapse.{IsLastElapse, IsPastElapse}
 
 -- `last` is the greatest number of `xs` that is at most `until`; None if there is no such number
@@ -13,6 +13,6 @@ IsLastUntil until xs (Some last) = Has xs last × (last ≤ℤ until) × ((x : �
 
 -- the last elapse up to the present of the timer's expressions, without the elapses of these exceptions; `None` only
 -- says that there is none after `base`
-abbrev pub IsLastAfter : Clocked → LoadedTimer → List Timed → ℤ → Option ℤ → Type 0
+abbrev pub IsLastAfter : Present → LoadedTimer → List Timed → ℤ → Option ℤ → Type 0
 IsLastAfter at timer exceptions base None = (secs : ℤ) → base <ℤ secs → IsPastElapse at timer exceptions secs → ⊥
 IsLastAfter at timer exceptions base (Some last) = IsLastElapse at timer exceptions last

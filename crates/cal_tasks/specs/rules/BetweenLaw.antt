@@ -5,12 +5,12 @@ use Rattle.std.specs.Set.{is_member}
 use Rattle.cal_load.specs.declared.loaded.LoadedTimer.{LoadedTimer}
 use Rattle.cal_rising.specs.rules.Elements.{Has}
 use Rattle.cal_timers_report.specs.rules.ReportView.{ElapseView}
-use Rattle.cal_tasks.specs.declared.clocked.Clocked.{Clocked}
+use Rattle.cal_tasks.specs.declared.present.Present.{Present}
 use Rattle.cal_tasks.specs.rules.LoadedElapses.{elapses_in}
 use Rattle.cal_tasks.specs.rules.SeveralTimers.{in_range}
 
 -- the row has the name of one of these timers and one of its elapses, at or after `from` and before `before`
-pub record IsElapseRow (at : Clocked) (from before : ℤ) (timers : List LoadedTimer) (row : ElapseView) : Type 0 where
+pub record IsElapseRow (at : Present) (from before : ℤ) (timers : List LoadedTimer) (row : ElapseView) : Type 0 where
   pub timer : LoadedTimer
   pub among : Has timers timer
   pub unit : row.unit ≡ string_bytes timer.name
@@ -19,7 +19,7 @@ pub record IsElapseRow (at : Clocked) (from before : ℤ) (timers : List LoadedT
   pub until : row.secs <ℤ before
 
 -- whether the timer elapses at the instant `secs`, and this instant is at or after `from` and before `before`
-abbrev pub elapses_then : Clocked → ℤ → ℤ → ℤ → LoadedTimer → Bool
+abbrev pub elapses_then : Present → ℤ → ℤ → ℤ → LoadedTimer → Bool
 elapses_then at from before secs timer =
     in_range from before secs && is_member int_eq (elapses_in at (from -ℤ pos 1) timer) secs
 

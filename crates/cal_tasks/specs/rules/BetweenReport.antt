@@ -3,7 +3,7 @@ use Rattle.std.specs.Prelude.{◌≡◌, ℤ, ◌-ℤ◌, pos, List, [], ◌∷�
 use Rattle.std.specs.List.{flat_map}
 use Rattle.cal_load.specs.declared.loaded.LoadedTimer.{LoadedTimer}
 use Rattle.cal_timers_report.specs.rules.ReportView.{ElapseView}
-use Rattle.cal_tasks.specs.declared.clocked.Clocked.{Clocked}
+use Rattle.cal_tasks.specs.declared.present.Present.{Present}
 use Rattle.cal_tasks.specs.declared.timer_elapse.TimerElapse.{TimerElapse}
 use Rattle.cal_tasks.specs.rules.LoadedElapses.{elapses_in}
 use Rattle.cal_tasks.specs.rules.SeveralTimers.{by_instant, elapse_seen, range_of_each}
@@ -21,7 +21,7 @@ named timers = flat_map (named_elapse timers)
 
 -- The rows are the elapses of these timers at or after `from` and before `before`, each once, in increasing order, and
 -- at the same instant in the order of the timers.
-pub record AreBetween (at : Clocked) (from before : ℤ) (timers : List LoadedTimer) (rows : List ElapseView) : Type 0 where
+pub record AreBetween (at : Present) (from before : ℤ) (timers : List LoadedTimer) (rows : List ElapseView) : Type 0 where
   pub elapses : List TimerElapse
   pub sorted : IsSorted by_instant elapses
   pub all : IsPermutation (range_of_each from before (map (elapses_in at (from -ℤ pos 1)) timers)) (map elapse_seen elapses)

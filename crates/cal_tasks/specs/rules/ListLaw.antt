@@ -3,7 +3,7 @@ use Rattle.std.specs.Prelude.{ℤ, Bool, false, true, int_lt, List, [], ◌∷�
 use Rattle.cal_load.specs.declared.loaded.Loaded.{Loaded}
 use Rattle.cal_load.specs.declared.loaded.LoadedTimer.{LoadedTimer}
 use Rattle.cal_timers_report.specs.rules.ReportView.{UnitView}
-use Rattle.cal_tasks.specs.declared.clocked.Clocked.{Clocked}
+use Rattle.cal_tasks.specs.declared.present.Present.{Present}
 use Rattle.cal_tasks.specs.rules.ListReport.{elapsing_row, ended_row}
 use Rattle.cal_tasks.specs.rules.LoadedElapses.{elapses_in}
 use Rattle.cal_tasks.specs.rules.Unguarded.{UnguardedView}
@@ -14,7 +14,7 @@ row_by loaded unguarded timer [] = ended_row loaded unguarded timer
 row_by loaded unguarded timer (secs ∷ later) = elapsing_row loaded unguarded secs timer
 
 -- the row of a timer: its first elapse after the present, if there is one, and its notes
-abbrev pub timer_row : Clocked → Loaded → List UnguardedView → LoadedTimer → UnitView
+abbrev pub timer_row : Present → Loaded → List UnguardedView → LoadedTimer → UnitView
 timer_row at loaded unguarded timer = row_by loaded unguarded timer (elapses_in at at.now.secs timer)
 
 -- whether the first next elapse is before the second; any elapse is before none

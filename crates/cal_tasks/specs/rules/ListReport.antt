@@ -8,7 +8,7 @@ use Rattle.cal_load.specs.rules.AllUnits.{is_disabled, shown_stems}
 use Rattle.cal_load.specs.rules.CalendarZones.{expressions_in}
 use Rattle.cal_load.specs.rules.TextFaults.{fails_to_load}
 use Rattle.cal_timers_report.specs.rules.ReportView.{UnitView}
-use Rattle.cal_tasks.specs.declared.clocked.Clocked.{Clocked}
+use Rattle.cal_tasks.specs.declared.present.Present.{Present}
 use Rattle.cal_tasks.specs.declared.timer_elapse.TimerElapse.{TimerElapse}
 use Rattle.cal_tasks.specs.rules.LoadedElapses.{elapses_in}
 use Rattle.cal_tasks.specs.rules.Notes.{exceptions_note, note_if}
@@ -67,7 +67,7 @@ failed_rows faults = map (λ fault. noted_row (codes "fails to load") (string_by
 
 -- The rows are those of the timers with a next elapse, soonest first; of the timers that don't elapse any more; of
 -- these masked units; and of the units that fail to load. systemd ignores the exceptions of the `unguarded` timers.
-pub record IsListOf (at : Clocked) (loaded : Loaded) (masked : List (List ℕ)) (unguarded : List UnguardedView) (rows : List UnitView) : Type 0 where
+pub record IsListOf (at : Present) (loaded : Loaded) (masked : List (List ℕ)) (unguarded : List UnguardedView) (rows : List UnitView) : Type 0 where
   pub soonest : List TimerElapse
   pub sorted : IsSorted by_instant soonest
   pub all : IsPermutation (next_of_each (map (elapses_in at at.now.secs) loaded.timers.items)) (map elapse_seen soonest)

@@ -9,7 +9,7 @@ use Rattle.cal_load.specs.declared.loaded.LoadedTimer.{LoadedTimer}
 use Rattle.cal_spec.specs.rules.Fields.{Fields}
 use Rattle.cal_timer.specs.rules.TimerEntries.{Timer}
 use Rattle.cal_plan.specs.rules.TimerElapses.{elapses_of_lists}
-use Rattle.cal_tasks.specs.declared.clocked.Clocked.{Clocked}
+use Rattle.cal_tasks.specs.declared.present.Present.{Present}
 
 -- the expressions and exceptions of a timer
 abbrev pub lists_of_loaded : Calendar → Timer Fields
@@ -17,9 +17,9 @@ lists_of_loaded calendar = record { expressions = expressions_in calendar; excep
 
 -- the zones that the expressions of a timer can refer to: the local zone, and the zones that were loaded for the timer,
 -- by their names
-abbrev pub setting_for : Clocked → LoadedTimer → Setting
+abbrev pub setting_for : Present → LoadedTimer → Setting
 setting_for at timer = record { local = zone_of at.local; find = zone_named timer.zones }
 
 -- the elapses of a timer after the base time
-abbrev pub elapses_in : Clocked → ℤ → LoadedTimer → List ℤ
+abbrev pub elapses_in : Present → ℤ → LoadedTimer → List ℤ
 elapses_in at base timer = elapses_of_lists (setting_for at timer) base (lists_of_loaded timer.calendar)

@@ -4,7 +4,7 @@ use Rattle.std.specs.List.{list_any}
 use Rattle.std.specs.Str.{bytes_eq}
 use Rattle.cal_load.specs.declared.loaded.LoadedTimer.{LoadedTimer}
 use Rattle.cal_timers_report.specs.rules.ReportView.{ComparisonView, SideView}
-use Rattle.cal_tasks.specs.declared.clocked.Clocked.{Clocked}
+use Rattle.cal_tasks.specs.declared.present.Present.{Present}
 use Rattle.cal_tasks.specs.rules.Difference.{first_only_in}
 use Rattle.cal_tasks.specs.rules.FromCrontab.{expression_texts, is_from_crontab}
 use Rattle.cal_tasks.specs.rules.LoadedElapses.{elapses_in}
@@ -19,7 +19,7 @@ abbrev pub read_as : LoadedTimer → List (List ℕ)
 read_as timer = if is_from_crontab timer then expression_texts timer else []
 
 -- the first instant after the present at which only `one` elapses, and the settings that only `one` has
-abbrev pub side_of : Clocked → LoadedTimer → LoadedTimer → SideView
+abbrev pub side_of : Present → LoadedTimer → LoadedTimer → SideView
 side_of at one other = record {
   unit = string_bytes one.name;
   read_as = read_as one;
@@ -27,5 +27,5 @@ side_of at one other = record {
   settings = settings_only one other;
 }
 
-abbrev pub comparison_of : Clocked → LoadedTimer → LoadedTimer → ComparisonView
+abbrev pub comparison_of : Present → LoadedTimer → LoadedTimer → ComparisonView
 comparison_of at one other = record { one = side_of at one other; other = side_of at other one }

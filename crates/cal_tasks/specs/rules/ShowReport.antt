@@ -13,7 +13,7 @@ use Rattle.cal_timers_report.specs.rules.ReportView.{ClockTimeView, LineView, Pl
 use Rattle.cal_tasks.specs.declared.clock_note.ClockChange.{ClockChange}
 use Rattle.cal_tasks.specs.declared.clock_note.ClockChange.TheVariants.{Skipped, Repeated}
 use Rattle.cal_tasks.specs.declared.clock_note.ClockNote.{ClockNote}
-use Rattle.cal_tasks.specs.declared.clocked.Clocked.{Clocked}
+use Rattle.cal_tasks.specs.declared.present.Present.{Present}
 use Rattle.cal_tasks.specs.rules.ClockNotes.{AreNotesOf, IsNoteAmong, by_local, limit_if, max_notes}
 use Rattle.cal_tasks.specs.rules.LastElapse.{IsLastOf, timed_exceptions}
 use Rattle.cal_tasks.specs.rules.LoadedElapses.{elapses_in, setting_for}
@@ -48,7 +48,7 @@ clock_time lines note =
 -- The notes are about local times that the expressions match and that a change of their zone skips or repeats. Of the
 -- notes about the next two changes of each zone, none of the first 16 is missing; `has_more` says whether there are
 -- more than 16.
-pub record AreFirstNotes (at : Clocked) (timer : LoadedTimer) (has_more : Bool) (notes : List ClockNote) : Type 0 where
+pub record AreFirstNotes (at : Present) (timer : LoadedTimer) (has_more : Bool) (notes : List ClockNote) : Type 0 where
   pub true_ones : All (IsNoteAmong (setting_for at timer) at.now.secs (expressions_in timer.calendar)) notes
   pub none_missing : All (AreNotesOf (setting_for at timer) at.now.secs (expressions_in timer.calendar) (limit_if has_more) notes)
       (expressions_in timer.calendar)
@@ -58,7 +58,7 @@ pub record AreFirstNotes (at : Clocked) (timer : LoadedTimer) (has_more : Bool) 
 -- The report of a timer: its files, its expressions and exceptions, the notes about its exceptions and about cron, its
 -- other settings, these warnings, its last elapse up to the present, its first `count` elapses after the present, and the
 -- local times that the next clock changes skip or repeat. systemd ignores the exceptions of the `unguarded` timers.
-pub record IsShownTimer (at : Clocked) (count : ℕ) (warnings : List (List ℕ)) (unguarded : List UnguardedView) (timer : LoadedTimer) (view : TimerView) : Type 0 where
+pub record IsShownTimer (at : Present) (count : ℕ) (warnings : List (List ℕ)) (unguarded : List UnguardedView) (timer : LoadedTimer) (view : TimerView) : Type 0 where
   pub unit : view.unit ≡ string_bytes timer.name
   pub files : view.files ≡ map (λ file. string_bytes file.path) timer.files.texts.items
   pub expressions : AllZip (IsShownLine timer) (expressions_in timer.calendar) view.expressions

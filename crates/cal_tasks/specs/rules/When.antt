@@ -17,12 +17,12 @@ use Rattle.cal_elapse.specs.rules.Elapses.{timed}
 use Rattle.cal_plan.specs.rules.ZoneFor.{zone_for}
 use Rattle.cal_stamp.specs.computed.Stamp.{moment_in}
 use Rattle.cal_stamp.specs.declared.fault.StampFault.{StampFault}
-use Rattle.cal_tasks.specs.declared.clocked.Clocked.{Clocked}
+use Rattle.cal_tasks.specs.declared.present.Present.{Present}
 use Rattle.cal_tasks.specs.declared.when.WhenFault.{WhenFault}
 use Rattle.cal_tasks.specs.declared.when.WhenFault.TheVariants.{NoInstant, NoMemory}
 
 -- the zones that the start or the end of a range can refer to: the local zone by default, and by name those of a table
-abbrev pub setting_with : Clocked → ZoneMap → Setting
+abbrev pub setting_with : Present → ZoneMap → Setting
 setting_with at table = record { local = zone_of at.local; find = zone_named table }
 
 -- whether the letters at the beginning of the first word are the name of a weekday

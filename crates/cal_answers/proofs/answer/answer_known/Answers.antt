@@ -4,5 +4,5 @@ use Rattle.cal_answers.proofs.answer.answer_known.Goals as goal
 
 pub returns-clause-answer : goal.returns-clause-answer
 returns-clause-answer c =
-    let asked = c.asked_by-asked.ensures (sym c.in-Some.ensures) (sym c.in-Some-zone.ensures) in
-    IfOk-weaker c.answer_asked.result _ _ (λ answer is. inr (inr (c.asked_by-asked.result, asked, is))) c.answer_asked.ensures.answer
+    let context = c.context_of-context.ensures (sym c.in-Some.ensures) (sym c.in-Some-zone.ensures) in
+    IfOk-weaker c.answer_in.result _ _ (λ answer is. inr (inr (c.context_of-context.result, context, is))) c.answer_in.ensures.answer

@@ -16,7 +16,7 @@ returns-clause-answer c =
     ap (map entry_seen) c.as_slice-2.ensures.value
     ∙ c.in_ok-report.ensures.entries
     ∙ ap (λ crontabs. flat_map (entries_of exprs_in) (map shown_crontab crontabs)) c.as_slice.ensures.value in
-    let out = c.in_ok-out.ensures ∙ ap (cron_output c.args.asked) entries in
+    let out = c.in_ok-out.ensures ∙ ap (cron_output c.args.context) entries in
     let err =
     c.in_ok-report.ensures.errors
     ∙ ap (λ crontabs. flat_map (error_lines_of exprs_in) (map shown_crontab crontabs)) c.as_slice.ensures.value in
