@@ -3,8 +3,8 @@
 
     completions/generate.py PROGRAM FOLDER
 
-PROGRAM is calendar-analyze or calendar-timers. FOLDER gets the files `NAME.bash`, `NAME.fish` and `_NAME`, of which
-this script prints the paths. Each is made from the template of the same name in this folder: a line `@TABLE@` there
+PROGRAM is calendar-analyze or calendar-timers. This script writes `NAME.bash`, `NAME.fish` and `_NAME` into FOLDER,
+and prints their paths. Each is made from the template of the same name in this folder: a line `@TABLE@` there
 stands for the verbs and options of the program. What a shell offers as the value of an option depends only on what the
 help calls the value, so a new option needs nothing here, unless its value has a new name."""
 

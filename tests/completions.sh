@@ -4,7 +4,7 @@
 #     tests/completions.sh PROGRAM TIMERS
 #
 # PROGRAM is calendar-analyze, and TIMERS is calendar-timers; completions/generate.py makes their completions. A row has
-# a line as far as it was typed, with `_` for a blank, then an arrow, and all words that have to be offered. In these,
+# a line as far as it was typed, with `_` for a blank, then an arrow, and exactly the words to offer. In these,
 # `(VERB)` stands for the options that `--help` of the verb lists, and `()` for those without a verb. For bash, options
 # with a value end in `=`.
 #
