@@ -11,10 +11,10 @@ compadd () {
 }
 _calendar-timers-folders () { reply=(../system) }
 print is''ready"
-repeat 100; do zpty -r -t shell text && [[ $text == *isready* ]] && break; sleep 0.05; done
+repeat 600; do zpty -r -t shell text && [[ $text == *isready* ]] && break; sleep 0.05; done
 zpty -w -n shell "$2"$'\t'
 text=
-repeat 100; do
+repeat 600; do
     while zpty -r -t shell more; do text+=$more; done
     [[ $text == *'<offered>'*'<offered>'* ]] && break
     sleep 0.05
