@@ -3,7 +3,7 @@ use Rattle.std.proofs.Common.{◌≡◌, ◌∙◌, ◌==◌, ℕ, ◌+◌, ◌<
 use Rattle.std.proofs.lemmas.Bool.{eqb-true}
 use Rattle.std.proofs.lemmas.List.{map-append, nil_from_length, take_more}
 use Rattle.std.proofs.lemmas.List.Elements.{All-nil, filter-append}
-use Rattle.cal_machine.specs.declared.raw.Raw.{Ghosts}
+use Rattle.cal_machine.specs.declared.system.System.{Ghosts}
 use Rattle.cal_machine.specs.declared.recorder.Recorder.{Recorder}
 use Rattle.cal_machine.specs.rules.Machine.{Machine}
 use Rattle.cal_machine.specs.rules.Recorded.{AgreesWith}
@@ -225,9 +225,9 @@ only_memory (Err fault) is = ap Err is
 
 -- if something is true of all machines that agree with what a recorder has read, it follows from what was read
 -- (`FollowsFromRead`)
-pub follows : {R : Type 0} {raw : Ghosts R} (tree : Recorder R raw) (IsSo : Machine → Type 0)
+pub follows : {S : Type 0} {system : Ghosts S} (tree : Recorder S system) (IsSo : Machine → Type 0)
     → ((machine : Machine) → AgreesWith tree.entries tree.names tree.files tree.variables machine → IsSo machine)
-    → FollowsFromRead raw.gives IsSo
+    → FollowsFromRead system.gives IsSo
 follows tree IsSo known =
     let read = read_by tree in
     record {

@@ -1,14 +1,15 @@
 //! A whole run: from the arguments to the bytes on both outputs and the exit status.
 
-ghost use Rattle.std.specs.Prelude.{◌≡◌, ℤ, IfOk, Option, false, map};
+ghost use Rattle.std.specs.Prelude.{◌≡◌, ℤ, IfOk, IsTrue, Option, false, map};
 ghost use Rattle.cal_answers.specs.rules.Output.{IsAnswerOn};
 ghost use Rattle.cal_answers.specs.rules.Printed.{printed_of};
+ghost use Rattle.cal_machine.specs.rules.Seen.{ClockShows};
 ghost use Rattle.cal_answers.specs.rules.Run.{IsRunOf, IsToPrint, Prints, status_unless};
 
 use crate::answer::Answer;
 use crate::whole::answer_on;
 use cal_bytes::{Sink, put_all, put_pieces};
-use cal_machine::Raw;
+use cal_machine::System;
 use cal_options::ArgumentFault;
 use cal_timers_command::{Command, asks_due};
 use cal_timers_report::Style;
@@ -24,16 +25,6 @@ const USAGE: u8 = 2;
 /// The exit status of `due` if there is an error line. With a status from 1 to 254, systemd would skip the service
 /// silently (systemd.service(5), ExecCondition=).
 const NOT_KNOWN: u8 = 255;
-
-/// The system on which the program runs.
-pub trait System: Raw {
-    /// Returns the part of the system below this folder, or the whole system if the path is empty.
-    fn below(self, root: String) -> Self;
-
-    /// Returns the time that the clock shows, in seconds of Unix time. Returns `None` if the clock can't be read or
-    /// shows a time before 1970.
-    fn clock(&self) -> Option<i64>;
-}
 
 /// Answers the question that the arguments ask, or gives the help that they ask for, and writes the answer to `out` and
 /// error lines to `err`. Returns the exit status.
@@ -104,7 +95,8 @@ fn answer_on_system<S: System + Drop>(
     command: &Command,
     style: Style,
 ) -> Result<Answer, AllocError>
-    ensures { IfOk result (λ answer. (clock : Option ℤ) × IsAnswerOn S.gives command.entry.now clock style (printed_of answer)) }
+    ensures { IfOk result (λ answer. (clock : Option ℤ) × IsTrue (S.gives (ClockShows clock))
+        × IsAnswerOn S.gives command.entry.now clock style (printed_of answer)) }
 {
     let clock = system.clock();
     let root = String::from_str(alloc, command.options.root.as_str())?;

@@ -30,4 +30,4 @@ mod trigger;
 mod unguarded;
 mod whole;
 
-pub use arguments_to_bytes::{System, answer_arguments};
+pub use arguments_to_bytes::answer_arguments;

@@ -17,7 +17,7 @@ use crate::range_zones::RangeZones;
 use crate::search_path::search_path;
 use crate::trigger::due_on;
 use crate::unguarded::unguarded_on;
-use cal_machine::{Entry, Raw, Recorder, Tree, TreeFault};
+use cal_machine::{Entry, Recorder, System, Tree, TreeFault};
 use cal_timers_command::{Command, Options, Question};
 use cal_timers_text::zones_text;
 use cal_zone::Instant;
@@ -25,19 +25,19 @@ use cal_zone_files::{Origin, ZonesFault};
 use std::alloc::{AllocError, Global};
 
 /// Reads all that the answer to the question of a command depends on: the zones, the search path, and the timers and
-/// files that the question names. Each question about the machine is asked of `raw` at most once.
+/// files that the question names. Each question about the machine is asked of `system` at most once.
 ///
 /// `clock` is the time that the machine's clock shows, in seconds of Unix time, or `None` if the clock can't be read.
 /// If the command names a present, `clock` isn't used. Fails only if allocation fails.
-pub(crate) fn read_question<'q, R: Raw + Drop>(
+pub(crate) fn read_question<'q, S: System + Drop>(
     alloc: Global,
-    raw: R,
+    system: S,
     command: &'q Command,
     clock: Option<i64>,
 ) -> Result<Found<'q>, AllocError>
-    ensures { IfOk result (IsFoundBy R.gives command.entry.now clock) }
+    ensures { IfOk result (IsFoundBy S.gives command.entry.now clock) }
 {
-    let mut tree = Recorder::new(alloc, raw);
+    let mut tree = Recorder::new(alloc, system);
     match read_known(alloc, &mut tree, command, clock) {
         Ok(known) => Ok(Found::Answerable(known)),
         Err(ReadFault::Unanswerable(reason)) => Ok(Found::Unanswerable(reason)),

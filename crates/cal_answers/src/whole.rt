@@ -6,26 +6,26 @@ ghost use Rattle.cal_answers.specs.rules.Printed.{printed_of};
 
 use crate::answer::{Answer, answer_question};
 use crate::reading::read_question;
-use cal_machine::Raw;
+use cal_machine::System;
 use cal_timers_command::Command;
 use cal_timers_report::Style;
 use std::alloc::{AllocError, Global};
 
 /// Reads all that the answer to the question of a command depends on, and answers it. Each question about the machine is asked of
-/// `raw` at most once.
+/// `system` at most once.
 ///
 /// `clock` is the time that the machine's clock shows, in seconds of Unix time, or `None` if the clock can't be read.
 /// If the command has `--now`, `clock` isn't used. Fails only if allocation fails.
-pub(crate) fn answer_on<R: Raw + Drop>(
+pub(crate) fn answer_on<S: System + Drop>(
     alloc: Global,
-    raw: R,
+    system: S,
     command: &Command,
     clock: Option<i64>,
     style: Style,
 ) -> Result<Answer, AllocError>
     ensures status { IfOk result (λ answer. answer.status ≤ 2) }
-    ensures answer { IfOk result (λ answer. IsAnswerOn R.gives command.entry.now clock style (printed_of answer)) }
+    ensures answer { IfOk result (λ answer. IsAnswerOn S.gives command.entry.now clock style (printed_of answer)) }
 {
-    let found = read_question(alloc, raw, command, clock)?;
+    let found = read_question(alloc, system, command, clock)?;
     answer_question(alloc, &command.options, &found, style)
 }

@@ -10,6 +10,7 @@ mod elapses;
 mod expressions;
 #[cfg(test)]
 mod instants;
+pub mod memory;
 #[cfg(test)]
 mod numbers;
 #[cfg(test)]

@@ -1,18 +1,20 @@
-//! What a machine has: its folders, files and links, and its environment variables.
+//! The system that a program runs on: its folders, files and links, its environment variables and its clock.
 #![tactic(auto)]
 
 mod copies;
 mod follow;
+mod host_system;
 mod keep;
 mod prefix;
-mod raw;
 mod recorder;
 mod steps;
+mod system;
 mod tree;
 
 pub use follow::{Content, Last, Place, find_place, look_at, names_at, read_at};
+pub use host_system::HostSystem;
 pub use prefix::after_prefix;
-pub use raw::Raw;
 pub use recorder::Recorder;
 pub use steps::before_last_byte;
+pub use system::System;
 pub use tree::{Entry, FILE_BYTES, Names, Tree, TreeFault, Unreadable};

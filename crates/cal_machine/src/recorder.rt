@@ -8,33 +8,33 @@ ghost use Rattle.cal_machine.specs.rules.Seen.{some_machine};
 
 use crate::copies::{copy_bytes, copy_entry, copy_names, copy_value};
 use crate::keep::{keep, said};
-use crate::raw::Raw;
+use crate::system::System;
 use crate::tree::{Entry, Names, Tree, TreeFault, Unreadable};
 use std::alloc::Global;
 use std::collections::BTreeMap;
 
-/// A [`Tree`] that asks each question of `raw` once and records the answer, even if it is an error. From then on, it
-/// returns the recorded answer. Running out of memory isn't an answer, and is never recorded.
+/// A [`Tree`] that asks each question of a [`System`] once and records the answer, even if it is an error. From then on,
+/// it returns the recorded answer. Running out of memory isn't an answer, and is never recorded.
 ///
-/// So its answers are those of a machine that doesn't change, and each of them is one that `raw` gave.
+/// So its answers are those of a machine that doesn't change, and each of them is one that the system gave.
 #[derive(Drop)]
-pub struct Recorder<R: Raw> {
-    raw: R,
+pub struct Recorder<S: System> {
+    system: S,
     entries: BTreeMap<String, Result<Entry, Unreadable>>,
     names: BTreeMap<String, Result<Names, Unreadable>>,
     files: BTreeMap<String, Result<Vec<u8>, Unreadable>>,
     variables: BTreeMap<String, Result<Option<String>, Unreadable>>,
-    ghost honest: { IsHonest R.gives entries names files variables },
+    ghost honest: { IsHonest S.gives entries names files variables },
 }
 
-impl<R: Raw> Recorder<R> {
+impl<S: System> Recorder<S> {
     /// Creates a recorder without recorded answers, with which every machine agrees.
-    pub fn new(alloc: Global, raw: R) -> Recorder<R>
-        ensures asks { result.raw ≡ raw }
-        ensures agrees { (machine : Machine) → ⟦<Recorder<R> as Tree>⟧.shows result machine }
+    pub fn new(alloc: Global, system: S) -> Recorder<S>
+        ensures asks { result.system ≡ system }
+        ensures agrees { (machine : Machine) → ⟦<Recorder<S> as Tree>⟧.shows result machine }
     {
         Recorder {
-            raw,
+            system,
             entries: BTreeMap::new(alloc),
             names: BTreeMap::new(alloc),
             files: BTreeMap::new(alloc),
@@ -43,14 +43,14 @@ impl<R: Raw> Recorder<R> {
     }
 }
 
-impl<R: Raw> Tree for Recorder<R> {
+impl<S: System> Tree for Recorder<S> {
     ghost shows = { λ tree. AgreesWith tree.entries tree.names tree.files tree.variables };
 
     fn look(&mut self, alloc: Global, path: &str) -> Result<Entry, TreeFault> {
         if let Some(answer) = self.entries.get(path) {
             return copy_entry(alloc, answer);
         }
-        let answer = said(self.raw.look(alloc, path))?;
+        let answer = said(self.system.look(alloc, path))?;
         let copy = copy_entry(alloc, &answer);
         keep(alloc, &mut self.entries, path, answer)?;
         copy
@@ -60,7 +60,7 @@ impl<R: Raw> Tree for Recorder<R> {
         if let Some(answer) = self.names.get(folder) {
             return copy_names(alloc, answer);
         }
-        let answer = said(self.raw.names(alloc, folder))?;
+        let answer = said(self.system.names(alloc, folder))?;
         let copy = copy_names(alloc, &answer);
         keep(alloc, &mut self.names, folder, answer)?;
         copy
@@ -70,7 +70,7 @@ impl<R: Raw> Tree for Recorder<R> {
         if let Some(answer) = self.files.get(file) {
             return copy_bytes(alloc, answer);
         }
-        let answer = said(self.raw.read(alloc, file))?;
+        let answer = said(self.system.read(alloc, file))?;
         let copy = copy_bytes(alloc, &answer);
         keep(alloc, &mut self.files, file, answer)?;
         copy
@@ -80,7 +80,7 @@ impl<R: Raw> Tree for Recorder<R> {
         if let Some(answer) = self.variables.get(name) {
             return copy_value(alloc, answer);
         }
-        let answer = said(self.raw.variable(alloc, name))?;
+        let answer = said(self.system.variable(alloc, name))?;
         let copy = copy_value(alloc, &answer);
         keep(alloc, &mut self.variables, name, answer)?;
         copy

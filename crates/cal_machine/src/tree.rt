@@ -13,6 +13,8 @@ pub const FILE_BYTES: usize = 1_048_577;
 /// Why something can't be read. This is a fact about the machine: trying again gives the same error.
 #[derive(Clone, Copy, PartialEq, Eq, Debug)]
 pub enum Unreadable {
+    /// A file can't be opened, for example because it doesn't exist or opening it isn't permitted.
+    Unopened,
     /// Reading fails, for example because it isn't permitted.
     Failed,
     /// The target of a link, or the value of a variable, is not UTF-8.

@@ -1,10 +1,11 @@
 //! Running a whole request: the reports of its texts or of its timer file go to standard output, the error lines go
 //! to standard error, and the status says whether anything was rejected (systemd-analyze(1)).
 
-ghost use Rattle.std.specs.Prelude.{ℕ, ℤ, List, Result, Ok, map, ◌≡◌, [], ◌∷◌, false, codes, IfOk, IsErrOf};
+ghost use Rattle.std.specs.Prelude.{ℕ, ℤ, List, Result, Ok, Err, map, ◌≡◌, [], ◌∷◌, false, codes, IfOk, IsErrOf};
 ghost use Rattle.std.specs.String.{string_bytes};
 ghost use Rattle.cal_bytes.specs.rules.Whole.{is_read_failed};
 ghost use Rattle.cal_bytes.specs.declared.whole.WholeFault.{WholeFault};
+ghost use Rattle.cal_bytes.specs.declared.whole.WholeFault.TheVariants.{ReadFailed};
 ghost use Rattle.cal_timer.specs.rules.TimerEntries.{ReadsWhole, timer_file_limit};
 ghost use Rattle.cal_bytes.specs.rules.Writes.{Writes};
 ghost use Rattle.cal_bytes.specs.rules.Puts.{Puts};
@@ -28,6 +29,7 @@ use crate::timer_report::{TimerPlanFault, read_plan, write_timer};
 use cal_bytes::{Sink, Source, WriteFault, put_pieces};
 use cal_request::{Request, RequestKind, RunFault, Status, TextVerb};
 use cal_stamp::{StampFault, read_stamp_in};
+use cal_timer::TimerFault;
 use cal_zone::{Instant, Setting, Zone, ZoneTable};
 use itoa::Buffer;
 use std::alloc::Global;
@@ -156,6 +158,31 @@ pub fn run_timer<R: Source, O: Sink, E: Sink>(
             };
             answer_timer(alloc, context, path, input, out, err)
         }
+        Err(fault) => report_error(err, "--base-time", None, fault.words()),
+    }
+}
+
+/// Answers a timer file that was opened but can't be read: writes an error line about the file or, if the base time of
+/// the request is invalid, about the base time. Fails with [`RunFault::ErrFailed`] if and only if `err` failed in this
+/// call.
+#[tactic(auto, unfolding(crate::specs::rules::TimerReport::error_line_at, crate::specs::rules::TimerReport::timer_answer))]
+pub fn report_unread<E: Sink>(
+    request: &Request,
+    path: &str,
+    setting: Setting<'_>,
+    err: &mut E,
+) -> Result<Status, RunFault>
+    requires { E.is_failed err.old ≡ false }
+    ensures status { IfOk result (λ status. status ≡ (file_report (asked_in request.now setting.entry) path.now (Err ReadFailed)).status) }
+    ensures silent { (file_report (asked_in request.now setting.entry) path.now (Err ReadFailed)).out ≡ [] }
+    ensures err { Writes (E.written err.old) (E.written err.new) result
+        (file_report (asked_in request.now setting.entry) path.now (Err ReadFailed)).err }
+    ensures err_failed { E.is_failed err.new ≡ is_err_failed result }
+    ensures out_failed { is_out_failed result ≡ false }
+    ensures memory { IsErrOf result NoMemory → ⊥ }
+{
+    match read_base(request, setting) {
+        Ok(_) => report_error(err, path, None, TimerFault::ReadFailed.words()),
         Err(fault) => report_error(err, "--base-time", None, fault.words()),
     }
 }

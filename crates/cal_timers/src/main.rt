@@ -4,11 +4,9 @@
 
 ghost use Rattle.std.specs.Prelude.{◌≡◌, false};
 
-pub mod machine;
-
-use crate::machine::Machine;
 use cal_answers::answer_arguments;
 use cal_bytes::{Port, Sink, put_all};
+use cal_machine::HostSystem;
 use cal_options::NOT_UTF_8;
 use cal_timers_report::Style;
 use std::env::FillError;
@@ -44,14 +42,11 @@ fn main(rt: HostRuntime) -> ExitCode {
         }
         Err(_) => return exit_with(&mut err, NOT_UTF_8, status_unless_due(&rt, USAGE)),
     };
-    let machine = Machine {
-        rt: &rt,
-        root: String::new(rt.alloc()),
-    };
+    let system = HostSystem::new(&rt);
     let mut out = Port::new(rt.stdout());
     let status = answer_arguments(
         rt.alloc(),
-        machine,
+        system,
         arguments.as_slice(),
         style_of(&rt),
         &mut out,

@@ -8,5 +8,3 @@ mod answers;
 mod crontab;
 #[cfg(test)]
 mod lint;
-#[cfg(test)]
-mod memory;

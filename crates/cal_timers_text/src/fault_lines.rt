@@ -222,7 +222,7 @@ fn reason_words(reason: Reason) -> &'static str
     ensures { result.now ≡ reason_words reason }
 {
     match reason {
-        Reason::Unreadable(Unreadable::Failed) => "cannot be read",
+        Reason::Unreadable(Unreadable::Unopened | Unreadable::Failed) => "cannot be read",
         Reason::Unreadable(Unreadable::NotUtf8) => "a link to a path that is not UTF-8",
         Reason::IsFolder => "is a directory",
         Reason::Missing => "no such file",

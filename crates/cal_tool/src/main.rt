@@ -4,11 +4,9 @@
 
 ghost use Rattle.std.specs.Prelude.{◌≡◌, false};
 
-pub mod machine;
-
-use crate::machine::Machine;
 use cal_bytes::{Port, Sink};
 pub use cal_command::{Ask, CommandFault, LocalZone, ZoneItem};
+use cal_machine::HostSystem;
 use cal_options::NOT_UTF_8;
 pub use cal_report::{laws, run};
 pub use cal_request::{Request, RunFault, Status, Verb};
@@ -36,10 +34,10 @@ fn main(rt: HostRuntime) -> ExitCode {
         return exit_with(&mut err, &Stop::Run(RunFault::NoMemory));
     };
     let mut out = Port::new(buffer);
-    let machine = Machine { rt: &rt };
+    let system = HostSystem::new(&rt);
     let ended = work(
         rt.alloc(),
-        &machine,
+        &system,
         arguments.as_slice(),
         &mut out,
         &mut err,

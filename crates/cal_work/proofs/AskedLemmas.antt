@@ -1,11 +1,12 @@
 -- Lemmas for the clause `headline` of `work`: what the arguments ask for. Either they make a request of the system, and
 -- the outcome of the work is the outcome of this request, or the work stops before the run.
 use Rattle.std.proofs.Common.{◌≡◌, ◌⊎◌, inl, inr, ℕ, ℤ, Bool, true, false, List, [], ◌∷◌, Option, None, Some, Result, Ok, Err, IfOk, IfNone, IfSome, refl, sym, ap, subst, ◌∙◌, arith}
-use Rattle.std.specs.Prelude.{IfErr, is_some, not, ◌&&◌, ◌==◌, ◌≤◌, pos, negsuc, int_lt, if◌then◌else◌, codes, option_map}
+use Rattle.std.specs.Prelude.{IfErr, IsTrue, is_some, nat_le, length, not, ◌&&◌, ◌==◌, ◌≤◌, pos, negsuc, int_lt, if◌then◌else◌, codes, option_map}
 use Rattle.std.specs.Option.{option_map_or}
 use Rattle.std.specs.List.{list_any}
 use Rattle.std.specs.FinMap.{empty, insert}
 use Rattle.std.proofs.lemmas.Bool.{false≢true}
+use Rattle.std.proofs.lemmas.Bool.Decides.{nat_tests}
 use Rattle.std.proofs.lemmas.Int.{ints}
 use Rattle.jiff.specs.Types.{TimeZone}
 use Rattle.jiff.specs.Words.{read_whole as rule_read}
@@ -14,8 +15,6 @@ use Rattle.cal_zone.specs.rules.Instant.{IsInstant, last_instant}
 use Rattle.cal_zone.specs.rules.ZoneFile.{file_limit, IsFileZone}
 use Rattle.cal_zone.specs.rules.ZoneTable.{ZoneMap, zone_named}
 use Rattle.cal_civil.specs.rules.ZoneName.{is_zone_name}
-use Rattle.cal_bytes.specs.declared.whole.WholeFault.{WholeFault}
-use Rattle.cal_bytes.specs.declared.whole.WholeFault.TheVariants as whole
 use Rattle.cal_zone.specs.declared.zone.Zone.{Zone as ClockZone}
 use Rattle.cal_zone.specs.declared.zone_fault.ZoneFault.TheVariants as zone
 use Rattle.cal_zone.specs.declared.zone_files.LoadFault.{LoadFault}
@@ -30,12 +29,12 @@ use Rattle.cal_command.specs.rules.VerbMatches.{VerbMatches, elapse_option, inst
 use Rattle.cal_options.proofs.NumberLemmas.{number_between-range}
 use Rattle.cal_report.specs.rules.ReportLines.{Report}
 use Rattle.cal_request.specs.rules.Request.{Request}
-use Rattle.cal_work.specs.rules.Outcome.{World, ZoneFound, and_then, asked_at, instant_in, loaded, local_by, or_clock_stop, or_load_stop, outcome, outcome_of, outcome_of_parsed, present_by, run_by, table_by, with_bytes, with_file, with_zone}
+use Rattle.cal_work.specs.rules.Outcome.{World, ZoneFound, and_then, asked_at, instant_in, loaded, local_by, or_clock_stop, or_load_stop, outcome, outcome_of, outcome_of_parsed, present_by, run_by, table_by, with_file, with_zone}
 use Rattle.cal_work.specs.rules.ProgramHeadline.{AreZonesOf, IsPresent, IsRequestOf}
 use Rattle.cal_work.specs.rules.Stop.{Stop, load_stop, memory_stop, name_stop, rule_stop, with_line}
-use Rattle.cal_work.specs.rules.System.{Known, Seen, GivesTime, Opens, SeesBytes}
-use Rattle.cal_work.specs.rules.Works.{Fits, FitsArguments, ReadsZone, SeesFile, SeesZone, SeesZones}
-use Rattle.cal_bytes.proofs.General.{some_none}
+use Rattle.cal_machine.specs.rules.Seen.{Said, ClockShows, FileIs}
+use Rattle.cal_work.specs.rules.FileAnswer.{FileAnswer, Gave}
+use Rattle.cal_work.specs.rules.Works.{Fits, FitsArguments, IsReadZone, ReadsZone, SeesFile, SeesZone, SeesZones}
 
 -- ## What the arguments ask for
 
@@ -156,96 +155,86 @@ loading_fault name (Zone zone.NameTaken) = is_fault _ 2 two
 
 -- ## The zone files
 
-opens_of : (opened : Option (Option (List ℕ))) (limit : ℕ) (bytes : List ℕ) → SeesBytes opened limit (Some (Ok bytes)) → Opens opened (Some (Some bytes))
-opens_of None limit bytes h = tt
-opens_of (Some None) limit bytes h = absurd (some_none (Ok bytes) h)
-opens_of (Some (Some all)) limit bytes h = ap (λ (b : List ℕ). Some (Some b)) h.1
-
 -- the zone of one file was added to the table `before`, which made it the table `more`
-record IsAdded (known : Known) (before : ZoneMap) (item : ZoneItem) (more : ZoneMap) : Type 0 where
+record IsAdded (gives : Said → Bool) (before : ZoneMap) (item : ZoneItem) (more : ZoneMap) : Type 0 where
   bytes : List ℕ
   tz : TimeZone
-  opens : Opens (known.file item.path) (Some (Some bytes))
+  given : IsTrue (gives (FileIs item.path (Ok bytes)))
   parsed : IsFileZone item.name bytes tz
   free : is_taken before item.name ≡ false
   is : more ≡ insert before item.name tz
 
-module _ (known : Known) (before : ZoneMap) (item : ZoneItem) (more : ZoneMap) where
-  added_free : (bytes : List ℕ) (tz : TimeZone) → Opens (known.file item.path) (Some (Some bytes)) → IsFileZone item.name bytes tz
+module _ (gives : Said → Bool) (before : ZoneMap) (item : ZoneItem) (more : ZoneMap) where
+  added_free : (bytes : List ℕ) (tz : TimeZone) → IsTrue (gives (FileIs item.path (Ok bytes))) → IsFileZone item.name bytes tz
       → (taken : Bool) → is_taken before item.name ≡ taken
-      → ◌≡◌ {A = Result ZoneMap LoadFault} (if taken then Err (Zone zone.NameTaken) else Ok (insert before item.name tz)) (Ok more) → IsAdded known before item more
-  added_free bytes tz opens is_zone true free h = cc
-  added_free bytes tz opens is_zone false free h = record { bytes = bytes; tz = tz; opens = opens; parsed = is_zone; free = free; is = cc }
+      → ◌≡◌ {A = Result ZoneMap LoadFault} (if taken then Err (Zone zone.NameTaken) else Ok (insert before item.name tz)) (Ok more) → IsAdded gives before item more
+  added_free bytes tz given is_zone true free h = cc
+  added_free bytes tz given is_zone false free h = record { bytes = bytes; tz = tz; given = given; parsed = is_zone; free = free; is = cc }
 
-  added_zone : (bytes : List ℕ) (read : Option TimeZone) → is_zone_name item.name ≡ true → SeesBytes (known.file item.path) file_limit (Some (Ok bytes))
-      → ReadsZone item.name (Some (Ok bytes)) read → with_zone before item.name read ≡ Ok more → IsAdded known before item more
-  added_zone bytes None named sees reads h = cc
-  added_zone bytes (Some tz) named sees reads h =
-      added_free bytes tz (opens_of (known.file item.path) file_limit bytes sees) (reads named) (is_taken before item.name) refl h
+  added_zone : (bytes : List ℕ) (read : Option TimeZone) → IsTrue (gives (FileIs item.path (Ok bytes)))
+      → IsReadZone item.name bytes read → with_zone before item.name read ≡ Ok more → IsAdded gives before item more
+  added_zone bytes None given reads h = cc
+  added_zone bytes (Some tz) given reads h = added_free bytes tz given reads (is_taken before item.name) refl h
 
-  added_bytes : (came : Result (List ℕ) WholeFault) (read : Option TimeZone) → is_zone_name item.name ≡ true → SeesBytes (known.file item.path) file_limit (Some came)
-      → ReadsZone item.name (Some came) read → with_bytes before item.name read came ≡ Ok more → IsAdded known before item more
-  added_bytes (Ok bytes) read named sees reads h = added_zone bytes read named sees reads h
-  added_bytes (Err whole.ReadFailed) read named sees reads h = cc
-  added_bytes (Err whole.TooLarge) read named sees reads h = cc
-  added_bytes (Err whole.NoMemory) read named sees reads h = cc
+  added_bytes : (bytes : List ℕ) (read : Option TimeZone) (valid fits : Bool) → is_zone_name item.name ≡ valid → nat_le (length bytes) file_limit ≡ fits
+      → IsTrue (gives (FileIs item.path (Ok bytes))) → ReadsZone item.name (Some (Ok bytes)) read
+      → ◌≡◌ {A = Result ZoneMap LoadFault} (if valid then if fits then with_zone before item.name read else Err (Zone zone.TooLarge) else Err (Zone zone.BadName)) (Ok more)
+      → IsAdded gives before item more
+  added_bytes bytes read true true named small given reads h = added_zone bytes read given (reads named (grind (arith, nat_tests))) h
+  added_bytes bytes read true false named small given reads h = cc
+  added_bytes bytes read false fits named small given reads h = cc
 
-  added_named : (came : Result (List ℕ) WholeFault) (read : Option TimeZone) (valid : Bool) → is_zone_name item.name ≡ valid → SeesBytes (known.file item.path) file_limit (Some came)
-      → ReadsZone item.name (Some came) read
-      → ◌≡◌ {A = Result ZoneMap LoadFault} (if valid then with_bytes before item.name read came else Err (Zone zone.BadName)) (Ok more) → IsAdded known before item more
-  added_named came read true named sees reads h = added_bytes came read named sees reads h
-  added_named came read false named sees reads h = cc
+  added_file : (answer : FileAnswer) (read : Option TimeZone) → Gave gives item.path answer → ReadsZone item.name answer read
+      → with_file before item.name read answer ≡ Ok more → IsAdded gives before item more
+  added_file None read given reads h = cc
+  added_file (Some (Err why)) read given reads h = cc
+  added_file (Some (Ok bytes)) read given reads h = added_bytes bytes read (is_zone_name item.name) (nat_le (length bytes) file_limit) refl refl given reads h
 
-  added_file : (seen : Seen) (read : Option TimeZone) → SeesBytes (known.file item.path) file_limit seen → ReadsZone item.name seen read
-      → with_file before item.name read seen ≡ Ok more → IsAdded known before item more
-  added_file None read sees reads h = cc
-  added_file (Some came) read sees reads h = added_named came read (is_zone_name item.name) refl sees reads h
-
-  added : (found : ZoneFound) → SeesZone known item found → loaded before item found ≡ Ok more → IsAdded known before item more
+  added : (found : ZoneFound) → SeesZone gives item found → loaded before item found ≡ Ok more → IsAdded gives before item more
   unfolding loaded
-  added found sees h = added_file found.seen found.zone sees.sees.bytes sees.reads h
+  added found sees h = added_file found.answer found.zone sees.given sees.reads h
 
 -- the table has the zones of the files, or the work stopped with a fault
-ZonesEnd : Known → ZoneMap → List ZoneItem → Result ZoneMap Stop → Type 0
-ZonesEnd known before items (Ok table) = AreZonesOf known before items table
-ZonesEnd known before items (Err stop) = IsFault stop
+ZonesEnd : (Said → Bool) → ZoneMap → List ZoneItem → Result ZoneMap Stop → Type 0
+ZonesEnd gives before items (Ok table) = AreZonesOf gives before items table
+ZonesEnd gives before items (Err stop) = IsFault stop
 
-one_more : (known : Known) (before more : ZoneMap) (item : ZoneItem) (items : List ZoneItem) (end : Result ZoneMap Stop) → IsAdded known before item more
-    → ZonesEnd known more items end → ZonesEnd known before (item ∷ items) end
+one_more : (gives : Said → Bool) (before more : ZoneMap) (item : ZoneItem) (items : List ZoneItem) (end : Result ZoneMap Stop) → IsAdded gives before item more
+    → ZonesEnd gives more items end → ZonesEnd gives before (item ∷ items) end
 unfolding ZonesEnd
-one_more known before more item items (Ok table) add rest =
-    (add.bytes, add.tz, add.opens, add.parsed, add.free, subst (λ start. AreZonesOf known start items table) add.is rest)
-one_more known before more item items (Err stop) add rest = rest
+one_more gives before more item items (Ok table) add rest =
+    (add.bytes, add.tz, add.given, add.parsed, add.free, subst (λ start. AreZonesOf gives start items table) add.is rest)
+one_more gives before more item items (Err stop) add rest = rest
 
-file_ends : (known : Known) (before : ZoneMap) (item : ZoneItem) (items : List ZoneItem) (found : ZoneFound) (later : List ZoneFound) → SeesZone known item found
-    → (r : Result ZoneMap LoadFault) → loaded before item found ≡ r → IfOk r (λ more. SeesZones known more items later)
-    → ((more : ZoneMap) → SeesZones known more items later → ZonesEnd known more items (table_by more items later))
-    → ZonesEnd known before (item ∷ items) (and_then (λ more. table_by more items later) (or_load_stop item.name r))
+file_ends : (gives : Said → Bool) (before : ZoneMap) (item : ZoneItem) (items : List ZoneItem) (found : ZoneFound) (later : List ZoneFound) → SeesZone gives item found
+    → (r : Result ZoneMap LoadFault) → loaded before item found ≡ r → IfOk r (λ more. SeesZones gives more items later)
+    → ((more : ZoneMap) → SeesZones gives more items later → ZonesEnd gives more items (table_by more items later))
+    → ZonesEnd gives before (item ∷ items) (and_then (λ more. table_by more items later) (or_load_stop item.name r))
 unfolding ZonesEnd
-file_ends known before item items found later sees (Ok more) is rest next =
-    one_more known before more item items (table_by more items later) (added known before item more found sees is) (next more rest)
-file_ends known before item items found later sees (Err fault) is rest next = loading_fault item.name fault
+file_ends gives before item items found later sees (Ok more) is rest next =
+    one_more gives before more item items (table_by more items later) (added gives before item more found sees is) (next more rest)
+file_ends gives before item items found later sees (Err fault) is rest next = loading_fault item.name fault
 
-zones_end : (known : Known) (before : ZoneMap) (items : List ZoneItem) (found : List ZoneFound) → SeesZones known before items found
-    → ZonesEnd known before items (table_by before items found)
+zones_end : (gives : Said → Bool) (before : ZoneMap) (items : List ZoneItem) (found : List ZoneFound) → SeesZones gives before items found
+    → ZonesEnd gives before items (table_by before items found)
 unfolding table_by ZonesEnd
-zones_end known before [] found sees = refl
-zones_end known before (item ∷ items) [] sees = absurd sees
-zones_end known before (item ∷ items) (f ∷ found) sees =
-    file_ends known before item items f found sees.0 (loaded before item f) refl sees.1 (λ more rest. zones_end known more items found rest)
+zones_end gives before [] found sees = refl
+zones_end gives before (item ∷ items) [] sees = absurd sees
+zones_end gives before (item ∷ items) (f ∷ found) sees =
+    file_ends gives before item items f found sees.0 (loaded before item f) refl sees.1 (λ more rest. zones_end gives more items found rest)
 
-zones_fault : (known : Known) (before : ZoneMap) (items : List ZoneItem) (end : Result ZoneMap Stop) → ZonesEnd known before items end → IfErr end IsFault
+zones_fault : (gives : Said → Bool) (before : ZoneMap) (items : List ZoneItem) (end : Result ZoneMap Stop) → ZonesEnd gives before items end → IfErr end IsFault
 unfolding ZonesEnd
-zones_fault known before items (Ok table) h = tt
-zones_fault known before items (Err stop) h = h
+zones_fault gives before items (Ok table) h = tt
+zones_fault gives before items (Err stop) h = h
 
-zones_are : (known : Known) (before : ZoneMap) (items : List ZoneItem) (end : Result ZoneMap Stop) (table : ZoneMap) → end ≡ Ok table → ZonesEnd known before items end
-    → AreZonesOf known before items table
+zones_are : (gives : Said → Bool) (before : ZoneMap) (items : List ZoneItem) (end : Result ZoneMap Stop) (table : ZoneMap) → end ≡ Ok table → ZonesEnd gives before items end
+    → AreZonesOf gives before items table
 unfolding ZonesEnd
-zones_are known before items (Ok other) table is h =
+zones_are gives before items (Ok other) table is h =
     let same : other ≡ table = cc in
-    subst (AreZonesOf known before items) same h
-zones_are known before items (Err stop) table is h = cc
+    subst (AreZonesOf gives before items) same h
+zones_are gives before items (Err stop) table is h = cc
 
 -- ## The local zone and the present instant
 
@@ -281,24 +270,24 @@ in_range : (secs now : ℤ) (tested : Bool) → (not (int_lt secs (pos 0)) && no
 in_range secs now true is h = (cc, instant_by secs _ _ refl refl is)
 in_range secs now false is h = cc
 
-present_is : (known : Known) (given clock : Option ℤ) (now : ℤ) → IfSome given IsInstant → IfNone given (GivesTime known.time clock)
-    → present_by given clock ≡ Ok now → IsPresent known given now
+present_is : (gives : Said → Bool) (given clock : Option ℤ) (now : ℤ) → IfSome given IsInstant → IfNone given (IsTrue (gives (ClockShows clock)))
+    → present_by given clock ≡ Ok now → IsPresent gives given now
 unfolding present_by instant_in
-present_is known (Some given) clock now instant gives h =
+present_is gives (Some given) clock now instant shown h =
     let same : given ≡ now = cc in
     (sym same, subst IsInstant same instant)
-present_is known None None now instant gives h = cc
-present_is known None (Some secs) now instant gives h =
+present_is gives None None now instant shown h = cc
+present_is gives None (Some secs) now instant shown h =
     let found = in_range secs now _ refl h in
-    subst (λ t. GivesTime known.time (Some t) × IsInstant t) found.0 (gives, found.1)
+    subst (λ t. IsTrue (gives (ClockShows (Some t))) × IsInstant t) found.0 (shown, found.1)
 
 -- ## All steps together
 
 -- the work ended with the report of the request, or with a stop of the run
-pub record Ran (known : Known) (ask : Ask) (world : World) (end : Result Report Stop) : Type 0 where
+pub record Ran (gives : Said → Bool) (ask : Ask) (world : World) (end : Result Report Stop) : Type 0 where
   pub asked : Request
-  pub request : IsRequestOf known ask asked
-  pub file : SeesFile known asked world.file
+  pub request : IsRequestOf gives ask asked
+  pub file : SeesFile gives asked world.file
   pub is : end ≡ run_by asked world.file
 
 pub record Stopped (end : Result Report Stop) : Type 0 where
@@ -306,27 +295,27 @@ pub record Stopped (end : Result Report Stop) : Type 0 where
   pub is : end ≡ Err stop
   pub fault : IsFault stop
 
-unfoldable pub Ends : Known → Ask → World → Result Report Stop → Type 0
-Ends known ask world end = Ran known ask world end ⊎ Stopped end
+unfoldable pub Ends : (Said → Bool) → Ask → World → Result Report Stop → Type 0
+Ends gives ask world end = Ran gives ask world end ⊎ Stopped end
 
-stops_here : (known : Known) (ask : Ask) (world : World) (stop : Stop) → IsFault stop → Ends known ask world (Err stop)
+stops_here : (gives : Said → Bool) (ask : Ask) (world : World) (stop : Stop) → IsFault stop → Ends gives ask world (Err stop)
 unfolding Ends
-stops_here known ask world stop fault = inr (record { stop = stop; is = refl; fault = fault })
+stops_here gives ask world stop fault = inr (record { stop = stop; is = refl; fault = fault })
 
-step : {A : Type 0} (known : Known) (ask : Ask) (world : World) (next : A → Result Report Stop) (r : Result A Stop) → IfErr r IsFault
-    → ((x : A) → r ≡ Ok x → Ends known ask world (next x)) → Ends known ask world (and_then next r)
-step known ask world next (Ok x) fault h = h x refl
-step known ask world next (Err stop) fault h = stops_here known ask world stop fault
+step : {A : Type 0} (gives : Said → Bool) (ask : Ask) (world : World) (next : A → Result Report Stop) (r : Result A Stop) → IfErr r IsFault
+    → ((x : A) → r ≡ Ok x → Ends gives ask world (next x)) → Ends gives ask world (and_then next r)
+step gives ask world next (Ok x) fault h = h x refl
+step gives ask world next (Err stop) fault h = stops_here gives ask world stop fault
 
-ends : (known : Known) (ask : Ask) (world : World) → IfSome ask.now IsInstant → Fits known ask world → Ends known ask world (outcome_of ask world)
+ends : (gives : Said → Bool) (ask : Ask) (world : World) → IfSome ask.now IsInstant → Fits gives ask world → Ends gives ask world (outcome_of ask world)
 unfolding outcome_of Ends
-ends known ask world instant fits =
-    let zones = zones_end known empty ask.zones world.zones fits.zones in
-    step known ask world _ (table_by empty ask.zones world.zones) (zones_fault known empty ask.zones _ zones) (λ table is_table.
+ends gives ask world instant fits =
+    let zones = zones_end gives empty ask.zones world.zones fits.zones in
+    step gives ask world _ (table_by empty ask.zones world.zones) (zones_fault gives empty ask.zones _ zones) (λ table is_table.
     let after = rw is_table at fits.after in
-    step known ask world _ (local_by ask.local table world.local) (local_fault ask.local table world.local) (λ local is_local.
+    step gives ask world _ (local_by ask.local table world.local) (local_fault ask.local table world.local) (λ local is_local.
     let later = rw is_local at after in
-    step known ask world _ (present_by ask.now world.clock) (present_fault ask.now world.clock) (λ now is_now.
+    step gives ask world _ (present_by ask.now world.clock) (present_fault ask.now world.clock) (λ now is_now.
     inl (record {
       asked = asked_at ask table local now;
       request = record {
@@ -334,23 +323,23 @@ ends known ask world instant fits =
         texts = refl;
         iterations = refl;
         base = refl;
-        now = present_is known ask.now world.clock now instant later.1 is_now;
-        zones = zones_are known empty ask.zones _ table is_table zones;
+        now = present_is gives ask.now world.clock now instant later.1 is_now;
+        zones = zones_are gives empty ask.zones _ table is_table zones;
         local = later.0;
       };
       file = rw is_now at later.2;
       is = refl;
     }))))
 
-ends_by : (known : Known) (ask : Ask) (world : World) → IfSome ask.now IsInstant → (parsed : Result Ask CommandFault) → world.parsed ≡ parsed → (parsed ≡ Ok ask) ⊎ (parsed ≡ Err no_memory)
-    → IfOk parsed (λ a. Fits known a world) → Ends known ask world (outcome world)
+ends_by : (gives : Said → Bool) (ask : Ask) (world : World) → IfSome ask.now IsInstant → (parsed : Result Ask CommandFault) → world.parsed ≡ parsed → (parsed ≡ Ok ask) ⊎ (parsed ≡ Err no_memory)
+    → IfOk parsed (λ a. Fits gives a world) → Ends gives ask world (outcome world)
 unfolding outcome Ends
-ends_by known ask world instant parsed is (inl h) fits =
-    subst (λ p. Ends known ask world (outcome_of_parsed p world)) (sym (is ∙ h)) (ends known ask world instant (rw h at fits))
-ends_by known ask world instant parsed is (inr h) fits =
-    subst (λ p. Ends known ask world (outcome_of_parsed p world)) (sym (is ∙ h)) (stops_here known ask world memory_stop (is_fault _ 1 one))
+ends_by gives ask world instant parsed is (inl h) fits =
+    subst (λ p. Ends gives ask world (outcome_of_parsed p world)) (sym (is ∙ h)) (ends gives ask world instant (rw h at fits))
+ends_by gives ask world instant parsed is (inr h) fits =
+    subst (λ p. Ends gives ask world (outcome_of_parsed p world)) (sym (is ∙ h)) (stops_here gives ask world memory_stop (is_fault _ 1 one))
 
-pub work_ends : (known : Known) (arguments : List (List ℕ)) (ask : Ask) (world : World) → FitsArguments known arguments world → IsAskOf arguments (Ok ask)
-    → Ends known ask world (outcome world)
-work_ends known arguments ask world fits asks =
-    ends_by known ask world (instant_given arguments ask asks) world.parsed refl (asked_for arguments ask world.parsed asks fits.parsed) fits.fits
+pub work_ends : (gives : Said → Bool) (arguments : List (List ℕ)) (ask : Ask) (world : World) → FitsArguments gives arguments world → IsAskOf arguments (Ok ask)
+    → Ends gives ask world (outcome world)
+work_ends gives arguments ask world fits asks =
+    ends_by gives ask world (instant_given arguments ask asks) world.parsed refl (asked_for arguments ask world.parsed asks fits.parsed) fits.fits

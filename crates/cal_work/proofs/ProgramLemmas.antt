@@ -2,6 +2,7 @@
 -- report that answers it, or nothing.
 use Rattle.std.proofs.Common.{◌≡◌, ◌⊎◌, inl, inr, ◌++◌, ℕ, ℤ, Bool, true, List, [], ◌∷◌, Option, None, Some, Result, Ok, Err, refl, sym, ap, subst, ◌∙◌, append-nil, append_assoc, codes, decimal}
 use Rattle.std.specs.Io.KnownBytes.{Appends, Keeps, append_known}
+use Rattle.std.specs.Prelude.{IsTrue}
 use Rattle.std.proofs.KnownBytes.{Appends-kept}
 use Rattle.std.proofs.lemmas.Bool.{false≢true}
 use Rattle.std.proofs.lemmas.List.{append_cancel_left}
@@ -14,7 +15,7 @@ use Rattle.cal_spec.specs.rules.Fields.{Fields}
 use Rattle.cal_stamp.specs.declared.fault.StampFault.{StampFault}
 use Rattle.cal_timer.specs.declared.fault.TimerFault.{TimerFault}
 use Rattle.cal_timer.specs.rules.TimerFault.{line_of, message_of}
-use Rattle.cal_timer.specs.rules.TimerEntries.{Timer, timer_file_limit, timer_text}
+use Rattle.cal_timer.specs.rules.TimerEntries.{Timer, timer_text}
 use Rattle.cal_plan.specs.rules.ZoneFor.{unzoned}
 use Rattle.cal_command.specs.rules.Ask.{Ask}
 use Rattle.cal_command.specs.rules.CommandLine.{IsAskOf}
@@ -43,9 +44,12 @@ use Rattle.cal_request.specs.declared.verb.Verb.{Verb}
 use Rattle.cal_request.specs.declared.verb.Verb.TheVariants as verb
 use Rattle.cal_work.specs.declared.arguments_to_bytes.Ended.{Ended}
 use Rattle.cal_work.specs.rules.Outcome.{World, ended_status, err_text, out_text, outcome, outcome_status, run_by, run_on}
-use Rattle.cal_work.specs.rules.ProgramHeadline.{Answers, AnswersTexts, HasReached, IsAnswerToFile, PrintsAnswer, PrintsNothing}
+use Rattle.cal_work.specs.rules.ProgramHeadline.{Answers, AnswersTexts, HasReached, IsAnswerToFile, PrintsAnswer, PrintsNothing, timer_read}
 use Rattle.cal_work.specs.rules.Stop.{Stop, exit_status, memory_stop, unopened_stop}
-use Rattle.cal_work.specs.rules.System.{Known, Seen, Sees}
+use Rattle.cal_machine.specs.declared.tree.Unreadable.{Unreadable}
+use Rattle.cal_machine.specs.declared.tree.Unreadable.TheVariants.{Unopened, Failed, NotUtf8}
+use Rattle.cal_machine.specs.rules.Seen.{Said, FileIs}
+use Rattle.cal_work.specs.rules.FileAnswer.{FileAnswer, Gave}
 use Rattle.cal_work.specs.rules.Works.{Reaches, SeesFile, SeesFor, Works, WritesErr}
 use Rattle.cal_work.proofs.AskedLemmas.{Ends, IsFault, Ran, is_fault, one, work_ends}
 
@@ -117,20 +121,20 @@ keeps (Some xs) (Some ys) h = h ∙ append-nil xs
 -- ## How the run of a request ends
 
 -- the work ended with a report that answers the request
-record EndsAnswered (known : Known) (asked : Request) (taking : Verb) (end : Result Report Stop) : Type 0 where
+record EndsAnswered (gives : Said → Bool) (asked : Request) (taking : Verb) (end : Result Report Stop) : Type 0 where
   base : ℤ
   sought : IsBase asked base
   report : Report
   is : end ≡ Ok report
-  answers : Answers taking known asked base report
+  answers : Answers taking gives asked base report
 
 -- if the work ends with `end`, nothing is printed on standard output, and the status isn't 0
 record EndsBlank (end : Result Report Stop) : Type 0 where
   out : out_text end ≡ []
   failed : (written : Result Unit RunFault) → ended_status written end ≡ 0 → ⊥
 
-EndsRun : Known → Request → Verb → Result Report Stop → Type 0
-EndsRun known asked taking end = EndsAnswered known asked taking end ⊎ EndsBlank end
+EndsRun : (Said → Bool) → Request → Verb → Result Report Stop → Type 0
+EndsRun gives asked taking end = EndsAnswered gives asked taking end ⊎ EndsBlank end
 
 stop_status : (written : Result Unit RunFault) (stop : Stop) → IsFault stop → ended_status written (Err stop) ≡ 0 → ⊥
 stop_status (Ok done) stop fault h = fault.status h
@@ -151,10 +155,10 @@ baseless after (Err other) fault is = refused_blank _
 
 -- ## Requests for `calendar`
 
-calendar_runs : (asked : Request) (seen : Seen) (read : Result (List ℕ) WholeFault) → asked.verb ≡ verb.Calendar → run_by asked seen ≡ Ok (report asked read)
+calendar_runs : (asked : Request) (answer : FileAnswer) (read : Result (List ℕ) WholeFault) → asked.verb ≡ verb.Calendar → run_by asked answer ≡ Ok (report asked read)
 unfolding run_by report
-calendar_runs asked seen read is =
-    subst (λ v. ◌≡◌ {A = Result Report Stop} (run_on asked seen (kind_by v asked.texts)) (Ok (report_on asked read (kind_by v asked.texts)))) (sym is) refl
+calendar_runs asked answer read is =
+    subst (λ v. ◌≡◌ {A = Result Report Stop} (run_on asked answer (kind_by v asked.texts)) (Ok (report_on asked read (kind_by v asked.texts)))) (sym is) refl
 
 calendar_blank : (asked : Request) (read : Result (List ℕ) WholeFault) (fault : StampFault) → asked.verb ≡ verb.Calendar → base_in asked ≡ Err fault → EndsBlank (Ok (report asked read))
 unfolding report
@@ -177,18 +181,18 @@ answers_texts asked base is based =
       cut = λ front rest read cut any. texts_resume asked read base is based among.0 front rest among.1 any (same_out asked read (Ok []) is ∙ cut);
     }
 
-calendar_ends : (known : Known) (asked : Request) (seen : Seen) (based : Result ℤ StampFault) → asked.verb ≡ verb.Calendar → base_in asked ≡ based
-    → EndsRun known asked verb.Calendar (run_by asked seen)
+calendar_ends : (gives : Said → Bool) (asked : Request) (answer : FileAnswer) (based : Result ℤ StampFault) → asked.verb ≡ verb.Calendar → base_in asked ≡ based
+    → EndsRun gives asked verb.Calendar (run_by asked answer)
 unfolding EndsRun
-calendar_ends known asked seen (Ok base) is based = inl (record {
+calendar_ends gives asked answer (Ok base) is based = inl (record {
   base = base;
   sought = base_found asked base based;
   report = report asked (Ok []);
-  is = calendar_runs asked seen (Ok []) is;
+  is = calendar_runs asked answer (Ok []) is;
   answers = answers_texts asked base is based;
 })
-calendar_ends known asked seen (Err fault) is none =
-    inr (subst EndsBlank (sym (calendar_runs asked seen (Ok []) is)) (calendar_blank asked (Ok []) fault is none))
+calendar_ends gives asked answer (Err fault) is none =
+    inr (subst EndsBlank (sym (calendar_runs asked answer (Ok []) is)) (calendar_blank asked (Ok []) fault is none))
 
 -- ## Requests for `timer`
 
@@ -259,50 +263,50 @@ answer_to_file asked base (Ok bytes) (Err line) is based h = (
 answer_to_file asked base (Err fault) (Ok text) is based h = never_read asked base (timer_path asked.texts) text fault h
 answer_to_file asked base (Err fault) (Err line) is based h = refusal_begins asked base (timer_path asked.texts) line (Err fault) h
 
-file_ends_by : (known : Known) (asked : Request) (read : Result (List ℕ) WholeFault) (based : Result ℤ StampFault) → asked.verb ≡ verb.Timer
-    → Sees known timer_file_limit (timer_path asked.texts) (Some read) → base_in asked ≡ based
-    → EndsRun known asked verb.Timer (Ok (report_from (λ base. whole_report (timer_answer asked base (timer_path asked.texts) read)) based))
+file_ends_by : (gives : Said → Bool) (asked : Request) (found : Result (List ℕ) Unreadable) (based : Result ℤ StampFault) → asked.verb ≡ verb.Timer
+    → IsTrue (gives (FileIs (timer_path asked.texts) found)) → base_in asked ≡ based
+    → EndsRun gives asked verb.Timer (Ok (report_from (λ base. whole_report (timer_answer asked base (timer_path asked.texts) (timer_read found))) based))
 unfolding EndsRun
-file_ends_by known asked read (Ok base) is sees based = inl (record {
+file_ends_by gives asked found (Ok base) is given based = inl (record {
   base = base;
   sought = base_found asked base based;
-  report = whole_report (timer_answer asked base (timer_path asked.texts) read);
+  report = whole_report (timer_answer asked base (timer_path asked.texts) (timer_read found));
   is = refl;
   answers = record {
-    read = read;
-    file = sees;
-    answer = timer_answer asked base (timer_path asked.texts) read;
-    right = answer_to_file asked base read _ is based refl;
+    found = found;
+    given = given;
+    answer = timer_answer asked base (timer_path asked.texts) (timer_read found);
+    right = answer_to_file asked base (timer_read found) _ is based refl;
     whole = refl;
   };
 })
-file_ends_by known asked read (Err fault) is sees based = inr (refused_blank _)
+file_ends_by gives asked found (Err fault) is given based = inr (refused_blank _)
 
-file_ends : (known : Known) (asked : Request) (read : Result (List ℕ) WholeFault) → asked.verb ≡ verb.Timer
-    → Sees known timer_file_limit (timer_path asked.texts) (Some read) → EndsRun known asked verb.Timer (Ok (file_report asked (timer_path asked.texts) read))
-file_ends known asked read is sees = file_ends_by known asked read (base_in asked) is sees refl
+file_ends : (gives : Said → Bool) (asked : Request) (found : Result (List ℕ) Unreadable) → asked.verb ≡ verb.Timer
+    → IsTrue (gives (FileIs (timer_path asked.texts) found)) → EndsRun gives asked verb.Timer (Ok (file_report asked (timer_path asked.texts) (timer_read found)))
+file_ends gives asked found is given = file_ends_by gives asked found (base_in asked) is given refl
 
-seen_ends : (known : Known) (asked : Request) (seen : Seen) → asked.verb ≡ verb.Timer → Sees known timer_file_limit (timer_path asked.texts) seen
-    → EndsRun known asked verb.Timer (run_on asked seen (for_file (timer_path asked.texts)))
+given_ends : (gives : Said → Bool) (asked : Request) (answer : FileAnswer) → asked.verb ≡ verb.Timer → Gave gives (timer_path asked.texts) answer
+    → EndsRun gives asked verb.Timer (run_on asked answer (for_file (timer_path asked.texts)))
 unfolding EndsRun
-seen_ends known asked None is sees = inr (stop_blank (unopened_stop (timer_path asked.texts)) (is_fault _ 1 one))
-seen_ends known asked (Some (Ok bytes)) is sees = file_ends known asked (Ok bytes) is sees
-seen_ends known asked (Some (Err whole.ReadFailed)) is sees = file_ends known asked (Err whole.ReadFailed) is sees
-seen_ends known asked (Some (Err whole.TooLarge)) is sees = file_ends known asked (Err whole.TooLarge) is sees
-seen_ends known asked (Some (Err whole.NoMemory)) is sees = inr (stop_blank memory_stop (is_fault _ 1 one))
+given_ends gives asked None is given = inr (stop_blank memory_stop (is_fault _ 1 one))
+given_ends gives asked (Some (Ok bytes)) is given = file_ends gives asked (Ok bytes) is given
+given_ends gives asked (Some (Err Unopened)) is given = inr (stop_blank (unopened_stop (timer_path asked.texts)) (is_fault _ 1 one))
+given_ends gives asked (Some (Err Failed)) is given = file_ends gives asked (Err Failed) is given
+given_ends gives asked (Some (Err NotUtf8)) is given = file_ends gives asked (Err NotUtf8) is given
 
-timer_ends : (known : Known) (asked : Request) (seen : Seen) → asked.verb ≡ verb.Timer → SeesFile known asked seen → EndsRun known asked verb.Timer (run_by asked seen)
+timer_ends : (gives : Said → Bool) (asked : Request) (answer : FileAnswer) → asked.verb ≡ verb.Timer → SeesFile gives asked answer → EndsRun gives asked verb.Timer (run_by asked answer)
 unfolding run_by
-timer_ends known asked seen is sees =
-    subst (λ v. EndsRun known asked verb.Timer (run_on asked seen (kind_by v asked.texts))) (sym is)
-    (seen_ends known asked seen is (subst (λ v. SeesFor (kind_by v asked.texts) known seen) is sees))
+timer_ends gives asked answer is sees =
+    subst (λ v. EndsRun gives asked verb.Timer (run_on asked answer (kind_by v asked.texts))) (sym is)
+    (given_ends gives asked answer is (subst (λ v. SeesFor (kind_by v asked.texts) gives answer) is sees))
 
-run_ends : (known : Known) (asked : Request) (seen : Seen) (taking : Verb) → asked.verb ≡ taking → seeks_elapses taking ≡ true → SeesFile known asked seen
-    → EndsRun known asked taking (run_by asked seen)
-run_ends known asked seen verb.Calendar is seeks sees = calendar_ends known asked seen (base_in asked) is refl
-run_ends known asked seen verb.Timer is seeks sees = timer_ends known asked seen is sees
-run_ends known asked seen verb.Timestamp is seeks sees = absurd (false≢true seeks)
-run_ends known asked seen verb.Timespan is seeks sees = absurd (false≢true seeks)
+run_ends : (gives : Said → Bool) (asked : Request) (answer : FileAnswer) (taking : Verb) → asked.verb ≡ taking → seeks_elapses taking ≡ true → SeesFile gives asked answer
+    → EndsRun gives asked taking (run_by asked answer)
+run_ends gives asked answer verb.Calendar is seeks sees = calendar_ends gives asked answer (base_in asked) is refl
+run_ends gives asked answer verb.Timer is seeks sees = timer_ends gives asked answer is sees
+run_ends gives asked answer verb.Timestamp is seeks sees = absurd (false≢true seeks)
+run_ends gives asked answer verb.Timespan is seeks sees = absurd (false≢true seeks)
 
 -- ## What the program prints
 
@@ -314,10 +318,10 @@ nothing ended out reached end blank status o = record {
   prefix = λ front at. none_of front _ blank.out (prefix_of out reached front _ ended.written at o);
 }
 
-answer_is_printed : (known : Known) (ask : Ask) (world : World) (ended : Ended) (out reached err err' : Option (List ℕ)) (failed : Bool) (end : Result Report Stop)
-    → (ran : Ran known ask world end) → (a : EndsAnswered known ran.asked ask.verb (run_by ran.asked world.file)) → ended.status ≡ ended_status ended.written end
-    → Reaches out reached ended.written (out_text end) → WritesErr err err' failed ended.written (err_text end) → PrintsAnswer known ask ended out reached err err'
-answer_is_printed known ask world ended out reached err err' failed end ran a status o e =
+answer_is_printed : (gives : Said → Bool) (ask : Ask) (world : World) (ended : Ended) (out reached err err' : Option (List ℕ)) (failed : Bool) (end : Result Report Stop)
+    → (ran : Ran gives ask world end) → (a : EndsAnswered gives ran.asked ask.verb (run_by ran.asked world.file)) → ended.status ≡ ended_status ended.written end
+    → Reaches out reached ended.written (out_text end) → WritesErr err err' failed ended.written (err_text end) → PrintsAnswer gives ask ended out reached err err'
+answer_is_printed gives ask world ended out reached err err' failed end ran a status o e =
     let same = ran.is ∙ a.is in
     let o_report = rw same at o in
     let at_end = status ∙ ap (ended_status ended.written) same in
@@ -337,28 +341,28 @@ answer_is_printed known ask world ended out reached err err' failed end ran a st
       prefix = λ front at. prefix_of out reached front a.report.out ended.written at o_report;
     }
 
-run_is_printed : (known : Known) (ask : Ask) (world : World) (ended : Ended) (out reached err err' : Option (List ℕ)) (failed : Bool) (end : Result Report Stop)
-    → (ran : Ran known ask world end) → EndsRun known ran.asked ask.verb (run_by ran.asked world.file) → ended.status ≡ ended_status ended.written end
+run_is_printed : (gives : Said → Bool) (ask : Ask) (world : World) (ended : Ended) (out reached err err' : Option (List ℕ)) (failed : Bool) (end : Result Report Stop)
+    → (ran : Ran gives ask world end) → EndsRun gives ran.asked ask.verb (run_by ran.asked world.file) → ended.status ≡ ended_status ended.written end
     → Reaches out reached ended.written (out_text end) → WritesErr err err' failed ended.written (err_text end)
-    → PrintsAnswer known ask ended out reached err err' ⊎ PrintsNothing ended out reached
+    → PrintsAnswer gives ask ended out reached err err' ⊎ PrintsNothing ended out reached
 unfolding EndsRun
-run_is_printed known ask world ended out reached err err' failed end ran (inl a) status o e =
-    inl (answer_is_printed known ask world ended out reached err err' failed end ran a status o e)
-run_is_printed known ask world ended out reached err err' failed end ran (inr blank) status o e =
+run_is_printed gives ask world ended out reached err err' failed end ran (inl a) status o e =
+    inl (answer_is_printed gives ask world ended out reached err err' failed end ran a status o e)
+run_is_printed gives ask world ended out reached err err' failed end ran (inr blank) status o e =
     inr (nothing ended out reached end (subst EndsBlank (sym ran.is) blank) status o)
 
-end_is_printed : (known : Known) (ask : Ask) (world : World) (ended : Ended) (out reached err err' : Option (List ℕ)) (failed : Bool) (end : Result Report Stop)
-    → seeks_elapses ask.verb ≡ true → Ends known ask world end → ended.status ≡ ended_status ended.written end
+end_is_printed : (gives : Said → Bool) (ask : Ask) (world : World) (ended : Ended) (out reached err err' : Option (List ℕ)) (failed : Bool) (end : Result Report Stop)
+    → seeks_elapses ask.verb ≡ true → Ends gives ask world end → ended.status ≡ ended_status ended.written end
     → Reaches out reached ended.written (out_text end) → WritesErr err err' failed ended.written (err_text end)
-    → PrintsAnswer known ask ended out reached err err' ⊎ PrintsNothing ended out reached
+    → PrintsAnswer gives ask ended out reached err err' ⊎ PrintsNothing ended out reached
 unfolding Ends
-end_is_printed known ask world ended out reached err err' failed end seeks (inl ran) status o e =
-    run_is_printed known ask world ended out reached err err' failed end ran (run_ends known ran.asked world.file ask.verb ran.request.verb seeks ran.file) status o e
-end_is_printed known ask world ended out reached err err' failed end seeks (inr stopped) status o e =
+end_is_printed gives ask world ended out reached err err' failed end seeks (inl ran) status o e =
+    run_is_printed gives ask world ended out reached err err' failed end ran (run_ends gives ran.asked world.file ask.verb ran.request.verb seeks ran.file) status o e
+end_is_printed gives ask world ended out reached err err' failed end seeks (inr stopped) status o e =
     inr (nothing ended out reached end (subst EndsBlank (sym stopped.is) (stop_blank stopped.stop stopped.fault)) status o)
 
-pub answers_are_printed : (known : Known) (arguments : List (List ℕ)) (ask : Ask) (out reached err err' : Option (List ℕ)) (failed : Bool) (ended : Ended)
-    → Works known arguments out reached err err' failed ended → IsAskOf arguments (Ok ask) → seeks_elapses ask.verb ≡ true
-    → PrintsAnswer known ask ended out reached err err' ⊎ PrintsNothing ended out reached
-answers_are_printed known arguments ask out reached err err' failed ended w asks seeks =
-    end_is_printed known ask w.world ended out reached err err' failed (outcome w.world) seeks (work_ends known arguments ask w.world w.fits asks) w.status w.out_bytes w.err_bytes
+pub answers_are_printed : (gives : Said → Bool) (arguments : List (List ℕ)) (ask : Ask) (out reached err err' : Option (List ℕ)) (failed : Bool) (ended : Ended)
+    → Works gives arguments out reached err err' failed ended → IsAskOf arguments (Ok ask) → seeks_elapses ask.verb ≡ true
+    → PrintsAnswer gives ask ended out reached err err' ⊎ PrintsNothing ended out reached
+answers_are_printed gives arguments ask out reached err err' failed ended w asks seeks =
+    end_is_printed gives ask w.world ended out reached err err' failed (outcome w.world) seeks (work_ends gives arguments ask w.world w.fits asks) w.status w.out_bytes w.err_bytes

@@ -1,9 +1,10 @@
--- The example system `bare_system` meets the conditions of the law `known_systems_decide`, and the arguments
--- `calendar daily` meet the conditions of the clause `headline` of `work`. A law is the contract of a function that
--- does nothing.
-use Rattle.std.proofs.Common.{◌≡◌, ◌⊎◌, inl, inr, refl, sym, ap, subst, ◌∙◌, Bool, true, false, List, [], ◌∷◌, Option, None, Some, Result, Ok, Err, codes, pos, ℕ, map}
+-- A system without files meets the conditions of the law `fixed_systems_decide`, and the arguments `calendar daily` meet
+-- the conditions of the clause `headline` of `work`. A law is the contract of a function that does nothing.
+use Rattle.std.proofs.Common.{◌≡◌, ◌⊎◌, inl, inr, refl, sym, ap, subst, ◌∙◌, Bool, true, false, List, [], ◌∷◌, Option, None, Some, Result, Ok, Err, codes, pos, ℕ, ℤ, map}
 use Rattle.std.specs.Io.KnownBytes.{Appends}
+use Rattle.std.specs.Prelude.{IsTrue, negsuc, suc, zero}
 use Rattle.std.proofs.KnownBytes.{Appends-kept}
+use Rattle.std.proofs.lemmas.Bool.{false≢true}
 use Rattle.std.specs.FinMap.{empty}
 use Rattle.jiff.specs.Types.{UTC}
 use Rattle.cal_zone.specs.rules.Zone.{utc, zone_of}
@@ -34,23 +35,40 @@ use Rattle.cal_request.specs.declared.request.Status.TheVariants.{Fine, Refused}
 use Rattle.cal_request.specs.declared.verb.Verb.TheVariants.{Calendar}
 use Rattle.cal_command.proofs.WorkedRows.{daily_asked, daily_taken}
 use Rattle.cal_command.specs.rules.WorkedArguments.{daily_arguments, daily_ask}
+use Rattle.cal_machine.specs.declared.tree.Unreadable.{Unreadable}
+use Rattle.cal_machine.specs.declared.tree.Unreadable.TheVariants.{Unopened, Failed, NotUtf8}
+use Rattle.cal_machine.specs.rules.Seen.{ClockShows, FileIs}
 use Rattle.cal_work.specs.declared.arguments_to_bytes.Ended.{Ended}
 use Rattle.cal_work.specs.rules.Outcome.{World, asked_at, ended_status, err_text, instant_in, local_by, out_text, outcome, outcome_of, present_by, run_by, table_by}
 use Rattle.cal_work.specs.rules.Stop.{Stop, exit_status, memory_stop}
-use Rattle.cal_work.specs.rules.WorkLaw.{IsOr, TellsAll, bare_system, daily_world, fine_end, known_outcome, known_world, known_zones}
+use Rattle.cal_work.specs.rules.WorkLaw.{IsFixed, IsOr, bare_gives, bare_machine, daily_world, fine_end, fixed_outcome, fixed_world, fixed_zones}
 use Rattle.cal_work.specs.rules.Works.{FitsArguments, Works, WritesErr}
-use Rattle.cal_work.proofs.LawLemmas.{known_decides}
+use Rattle.cal_work.proofs.LawLemmas.{fixed_decides}
 
-pub bare_tells : TellsAll bare_system
-bare_tells = record { files = λ path. refl; sure = λ path. refl; time = refl }
+bare_file : (path : List ℕ) (answer : Result (List ℕ) Unreadable) → IsTrue (bare_gives (FileIs path answer)) → answer ≡ Err Unopened
+unfolding bare_gives
+bare_file path (Ok bytes) h = absurd (false≢true h)
+bare_file path (Err Unopened) h = refl
+bare_file path (Err Failed) h = absurd (false≢true h)
+bare_file path (Err NotUtf8) h = absurd (false≢true h)
 
-pub bare_fits : FitsArguments bare_system daily_arguments daily_world
-unfolding instant_in local_by present_by table_by
+bare_time : (shown : Option ℤ) → IsTrue (bare_gives (ClockShows shown)) → shown ≡ Some (pos 0)
+unfolding bare_gives
+bare_time None h = absurd (false≢true h)
+bare_time (Some (pos zero)) h = refl
+bare_time (Some (pos (suc n))) h = absurd (false≢true h)
+bare_time (Some (negsuc n)) h = absurd (false≢true h)
+
+pub bare_fixed : IsFixed bare_gives bare_machine (Some (pos 0))
+bare_fixed = record { files = bare_file; time = bare_time }
+
+pub bare_fits : FitsArguments bare_gives daily_arguments daily_world
+unfolding bare_gives instant_in local_by present_by table_by
 bare_fits = record { parsed = daily_asked; fits = record { zones = tt; after = (refl, refl, tt) } }
 
 -- ## A run to which the clause `headline` applies
 
--- the request that `calendar daily` makes of `bare_system`
+-- the request that `calendar daily` makes of a system without files
 daily_request : Request
 daily_request = asked_at daily_ask empty utc (pos 0)
 
@@ -79,7 +97,7 @@ daily_accepted : IsAccepted daily_request daily
 unfolding daily daily_fields daily_request zone_of
 daily_accepted = record { spelled = read_is_spelled (codes "daily") daily_fields daily_read; zone = refl }
 
--- the report of `calendar daily` on `bare_system`
+-- the report of `calendar daily` on this system
 pub daily_report : Report
 daily_report = report daily_request (Ok [])
 
@@ -103,9 +121,9 @@ daily_outcome : outcome daily_world ≡ Ok daily_report
 unfolding daily_report daily_request outcome outcome_of table_by local_by present_by instant_in run_by report
 daily_outcome = refl
 
--- the only outcome of `calendar daily` on `bare_system`, whatever the world is
-daily_known : (world : World) → known_outcome bare_system (Ok daily_ask) world ≡ Ok daily_report
-unfolding daily_report daily_request outcome outcome_of table_by local_by present_by instant_in run_by report known_world known_zones
+-- the only outcome of `calendar daily` on this system, whatever the world is
+daily_known : (world : World) → fixed_outcome bare_machine (Some (pos 0)) (Ok daily_ask) world ≡ Ok daily_report
+unfolding daily_report daily_request outcome outcome_of table_by local_by present_by instant_in run_by report fixed_world fixed_zones
 daily_known world = refl
 
 fine_status : (status : Status) → status ≡ Fine → exit_status status ≡ 0
@@ -115,7 +133,7 @@ fine_status Refused is = cc
 appended : (text : List ℕ) → text ≡ [] → Appends (Some []) (Some []) text
 appended text none = sym none
 
-pub daily_works : Works bare_system daily_arguments (Some []) (Some daily_report.out) (Some []) (Some []) false fine_end
+pub daily_works : Works bare_gives daily_arguments (Some []) (Some daily_report.out) (Some []) (Some []) false fine_end
 daily_works = record {
   world = daily_world;
   fits = bare_fits;
@@ -138,9 +156,9 @@ ends_fine_or_full err err' failed status (Ok done) end all (inr full) at_end e =
     inr (subst (Appends err err') (ap err_text full) (Appends-kept err e.before err' _ e.text_bytes e.line))
 ends_fine_or_full err err' failed status (Err fault) end all same at_end e = cc
 
-pub daily_is_printed : (out reached err err' : Option (List ℕ)) (failed : Bool) (ended : Ended) → Works bare_system daily_arguments out reached err err' failed ended
+pub daily_is_printed : (out reached err err' : Option (List ℕ)) (failed : Bool) (ended : Ended) → Works bare_gives daily_arguments out reached err err' failed ended
     → ended.written ≡ Ok tt → (ended.status ≡ 0) ⊎ Appends err err' memory_stop.err
 daily_is_printed out reached err err' failed ended w all =
-    let decided = known_decides bare_system daily_arguments w.world bare_tells daily_taken w.fits in
-    let answered = subst (λ answer. IsOr (outcome w.world) (known_outcome bare_system answer w.world)) daily_asked.1 decided in
+    let decided = fixed_decides bare_gives bare_machine (Some (pos 0)) bare_fixed daily_arguments w.world daily_taken w.fits in
+    let answered = subst (λ answer. IsOr (outcome w.world) (fixed_outcome bare_machine (Some (pos 0)) answer w.world)) daily_asked.1 decided in
     ends_fine_or_full err err' failed ended.status ended.written (outcome w.world) all (subst (IsOr (outcome w.world)) (daily_known w.world) answered) w.status w.err_bytes

@@ -1,7 +1,7 @@
 //! The program's whole work, from the arguments to the bytes on both outputs and the exit status (systemd-analyze(1)).
 //!
 //! The order is: the arguments, the zone files one after another, the local zone, the clock (unless `--now` is given),
-//! opening the timer file, and the run. The first step that fails ends the work; the steps after it aren't done.
+//! the timer file, and the run. The first step that fails ends the work; the steps after it aren't done.
 
 ghost use Rattle.std.specs.Prelude.{◌≡◌, ◌⊎◌, ℕ, List, Option, Result, Ok, Err, Some, None, true, false, is_err, map, option_map, IfOk, IfErr};
 ghost use Rattle.cal_bytes.specs.rules.Writes.{Writes};
@@ -10,6 +10,7 @@ ghost use Rattle.cal_command.specs.rules.Ask as asks;
 ghost use Rattle.cal_command.specs.rules.CommandLine.{IsAskOf};
 ghost use Rattle.cal_zone.specs.rules.ZoneArgument.{HasOffset, shown_zone_argument};
 ghost use Rattle.cal_work.specs.rules.Outcome.{instant_in};
+ghost use Rattle.cal_report.specs.rules.Context.{asked_in};
 ghost use Rattle.cal_report.specs.rules.ReportLines.{Report};
 ghost use Rattle.cal_request.specs.rules.RequestView.{asked};
 ghost use Rattle.cal_request.specs.rules.Status.{is_out_failed, is_err_failed};
@@ -17,17 +18,19 @@ ghost use Rattle.cal_request.specs.rules.Verb.{seeks_elapses};
 ghost use Rattle.cal_work.specs.rules.ProgramHeadline.{PrintsAnswer, PrintsNothing};
 ghost use Rattle.cal_work.specs.rules.Stop as stops;
 ghost use Rattle.cal_work.specs.rules.Stop.{stops_for_out, stops_for_err, load_stop, rule_stop, unopened_stop};
-ghost use Rattle.cal_work.specs.rules.System.{Opens};
-ghost use Rattle.cal_work.specs.computed.WorkSteps.{is_out_cut, is_err_cut, ran, status_by, Answered, AnsweredArguments, EndsAs, FindsLocal, HasRules, IsFlushed, IsBadRule, Loads, Presents, Reads, ReadsZones, Runs, StopsAs, ReportsStop, WritesOf};
+ghost use Rattle.cal_work.specs.computed.WorkSteps.{is_out_cut, is_err_cut, ran, status_by, Answered, AnsweredArguments, EndsAs, FindsLocal, HasRules, IsFlushed, IsBadRule, Loads, Presents, Reads, ReadsZones, Runs, RunsFile, StopsAs, ReportsStop, WritesOf};
 ghost use Rattle.cal_work.specs.rules.Works.{Reaches, ReportsFault, Works};
 
+use crate::file_bytes::FileBytes;
 use crate::stop::{Outlet, Stop, exit_status, write_stop};
-use crate::system::System;
 use cal_bytes::{Output, Sink};
 use cal_command::{Ask, CommandFault, ZoneItem};
-use cal_report::{run_texts, run_timer};
+use cal_machine::{System, TreeFault, Unreadable};
+use cal_report::{report_unread, run_texts, run_timer};
 use cal_request::{Request, RequestKind, RunFault, Status};
-use cal_zone::{Instant, LoadFault, Rules, Setting, Zone, ZoneArgument, ZoneTable, load_zone};
+use cal_zone::{
+    Instant, LoadFault, Rules, Setting, Zone, ZoneArgument, ZoneFault, ZoneTable, load_zone,
+};
 use std::alloc::Global;
 use std::convert::AsStr;
 
@@ -63,13 +66,13 @@ pub fn work<S: System, T: AsStr, O: Output, E: Sink>(
 ) -> Ended
     requires out { O.is_failed out.old ≡ false }
     requires err { E.is_failed err.old ≡ false }
-    ensures works { Works (S.tells system.now) (map T.text arguments.now) (O.written out.old) (O.reached out.new)
+    ensures works { Works S.gives (map T.text arguments.now) (O.written out.old) (O.reached out.new)
         (E.written err.old) (E.written err.new) (E.is_failed err.new) result }
     // The headline, for the verbs `calendar` and `timer`: the program prints the answer to what the arguments ask for
     // (or a prefix of it, with a status other than 0), or it prints nothing on standard output and its status isn't 0.
     // In the second case, the clause `works` says why.
     ensures headline { (ask : asks.Ask) → IsAskOf (map T.text arguments.now) (Ok ask) → seeks_elapses ask.verb ≡ true
-        → PrintsAnswer (S.tells system.now) ask result (O.written out.old) (O.reached out.new) (E.written err.old) (E.written err.new)
+        → PrintsAnswer S.gives ask result (O.written out.old) (O.reached out.new) (E.written err.old) (E.written err.new)
         ⊎ PrintsNothing result (O.written out.old) (O.reached out.new) }
     ensures out_fault { is_out_failed result.written ≡ true → O.is_failed out.new ≡ true }
     ensures out_failed { O.is_failed out.new ≡ true → is_err result.written ≡ true }
@@ -108,7 +111,7 @@ fn answer_arguments<S: System, T: AsStr, O: Sink, E: Sink>(
 ) -> Result<Status, Stop>
     requires out { O.is_failed out.old ≡ false }
     requires err { E.is_failed err.old ≡ false }
-    ensures answered { AnsweredArguments (S.tells system.now) (map T.text arguments.now) result
+    ensures answered { AnsweredArguments S.gives (map T.text arguments.now) result
         (O.written out.old) (O.written out.new) (E.written err.old) (E.written err.new) }
     ensures out_failed { O.is_failed out.new ≡ is_out_cut result }
     ensures err_failed { E.is_failed err.new ≡ is_err_cut result }
@@ -129,7 +132,7 @@ fn answer<S: System, O: Sink, E: Sink>(
 ) -> Result<Status, Stop>
     requires out { O.is_failed out.old ≡ false }
     requires err { E.is_failed err.old ≡ false }
-    ensures answered { Answered (S.tells system.now) (shown_ask ask.entry.now) result
+    ensures answered { Answered S.gives (shown_ask ask.entry.now) result
         (O.written out.old) (O.written out.new) (E.written err.old) (E.written err.new) }
     ensures out_failed { O.is_failed out.new ≡ is_out_cut result }
     ensures err_failed { E.is_failed err.new ≡ is_err_cut result }
@@ -144,9 +147,9 @@ fn answer<S: System, O: Sink, E: Sink>(
 // ## The steps of `answer`
 
 /// Reads the zone files, in order, into a new table. If a file can't be loaded, returns the stop for this file, and
-/// doesn't open the files after it.
+/// doesn't read the files after it.
 fn read_zones<S: System>(alloc: Global, system: &S, items: &[ZoneItem]) -> Result<ZoneTable, Stop>
-    ensures { ReadsZones (λ table. table) (S.tells system.now) (map shown_item items.now) result }
+    ensures { ReadsZones (λ table. table) S.gives (map shown_item items.now) result }
 {
     let mut table = ZoneTable::new(alloc);
     for item in items {
@@ -158,18 +161,24 @@ fn read_zones<S: System>(alloc: Global, system: &S, items: &[ZoneItem]) -> Resul
     Ok(table)
 }
 
-/// Reads a zone file into the table. A file that can't be opened is reported like one that can't be read.
+/// Reads a zone file into the table.
 fn load_item<S: System>(
     alloc: Global,
     system: &S,
     table: &mut ZoneTable,
     item: &ZoneItem,
 ) -> Result<(), LoadFault>
-    ensures { Loads (S.tells system.now) table.old table.new (shown_item item.now) result }
+    ensures { Loads S.gives table.old table.new (shown_item item.now) result }
 {
-    match system.open(item.path.as_str()) {
-        Some(mut file) => load_zone(alloc, table, item.name.as_str(), &mut file),
-        None => Err(LoadFault::ReadFailed),
+    match system.read(alloc, item.path.as_str()) {
+        Ok(bytes) => {
+            let mut file = FileBytes {
+                left: bytes.as_slice(),
+            };
+            load_zone(alloc, table, item.name.as_str(), &mut file)
+        }
+        Err(TreeFault::Unreadable(_)) => Err(LoadFault::ReadFailed),
+        Err(TreeFault::NoMemory) => Err(LoadFault::Zone(ZoneFault::NoMemory)),
     }
 }
 
@@ -226,7 +235,7 @@ fn local_zone<'t>(
 /// Returns the present instant: the instant given with `--now`, or else the time of the clock. Fails with `Stop::Clock`
 /// if the clock is needed and has no time, or a time outside the supported range.
 fn find_present<S: System>(system: &S, given: Option<Instant>) -> Result<Instant, Stop>
-    ensures { Presents (λ now. now.secs) (S.tells system.now) (option_map (λ now. now.secs) given) result }
+    ensures { Presents (λ now. now.secs) S.gives (option_map (λ now. now.secs) given) result }
 {
     match given {
         Some(now) => Ok(now),
@@ -236,7 +245,7 @@ fn find_present<S: System>(system: &S, given: Option<Instant>) -> Result<Instant
 
 /// Reads the clock. Fails with `Stop::Clock` if the clock has no time, or a time outside the supported range.
 fn read_system_clock<S: System>(system: &S) -> Result<Instant, Stop>
-    ensures { Reads (λ now. now.secs) (S.tells system.now) result }
+    ensures { Reads (λ now. now.secs) S.gives result }
 {
     system.clock().and_then(instant_in).ok_or(Stop::Clock)
 }
@@ -249,7 +258,7 @@ fn instant_in(secs: i64) -> Option<Instant>
     Instant::new(secs)
 }
 
-/// Runs a request. If it is for a timer file, opens the file first.
+/// Runs a request. If it is for a timer file, reads the file first.
 fn run_request<S: System, O: Sink, E: Sink>(
     alloc: Global,
     system: &S,
@@ -262,7 +271,7 @@ fn run_request<S: System, O: Sink, E: Sink>(
 ) -> Result<Status, Stop>
     requires out { O.is_failed out.old ≡ false }
     requires err { E.is_failed err.old ≡ false }
-    ensures runs { Runs (S.tells system.now) (asked request.now now.secs local.entry table.now) result
+    ensures runs { Runs S.gives (asked request.now now.secs local.entry table.now) result
         (O.written out.old) (O.written out.new) (E.written err.old) (E.written err.new) }
     ensures out_failed { O.is_failed out.new ≡ is_out_cut result }
     ensures err_failed { E.is_failed err.new ≡ is_err_cut result }
@@ -276,28 +285,51 @@ fn run_request<S: System, O: Sink, E: Sink>(
         RequestKind::Texts { verb, texts } => {
             run_texts(alloc, request, verb, texts, setting, out, err).map_err(Stop::Run)
         }
-        RequestKind::Timer { path } => {
-            let mut input = open_file(alloc, system, path)?;
-            run_timer(alloc, request, path, setting, &mut input, out, err).map_err(Stop::Run)
-        }
+        RequestKind::Timer { path } => { run_file(alloc, system, request, path, setting, out, err) }
     }
 }
 
-/// Opens the timer file. Fails with `Stop::Open` if it can't be opened. That stop owns a copy of the path; if the copy
-/// can't be allocated, the stop is for running out of memory instead.
-fn open_file<S: System>(alloc: Global, system: &S, path: &str) -> Result<S::File, Stop>
-    ensures opened { IfOk result (λ file. Opens ((S.tells system.now).file path.now) (Some (S.File.remaining file))) }
-    ensures sure { IfOk result (λ file. S.File.may_fail file ≡ (S.tells system.now).may_fail path.now) }
-    ensures works { IfOk result (λ file. S.File.is_failed file ≡ false) }
-    ensures refused { IfErr result (λ stop. StopsAs {X = Unit} stop (Err (unopened_stop path.now))
-        × Opens ((S.tells system.now).file path.now) None) }
+/// Reads the timer file with this path, and runs the request for it. Fails with `Stop::Open` if the file can't be
+/// opened.
+fn run_file<S: System, O: Sink, E: Sink>(
+    alloc: Global,
+    system: &S,
+    request: &Request,
+    path: &str,
+    setting: Setting<'_>,
+    out: &mut O,
+    err: &mut E,
+) -> Result<Status, Stop>
+    requires out { O.is_failed out.old ≡ false }
+    requires err { E.is_failed err.old ≡ false }
+    ensures runs { RunsFile S.gives (asked_in request.now setting.entry) path.now result
+        (O.written out.old) (O.written out.new) (E.written err.old) (E.written err.new) }
+    ensures out_failed { O.is_failed out.new ≡ is_out_cut result }
+    ensures err_failed { E.is_failed err.new ≡ is_err_cut result }
 {
-    match system.open(path) {
-        Some(file) => Ok(file),
-        None => match String::from_str(alloc, path) {
-            Ok(path) => Err(Stop::Open(path)),
-            Err(_) => Err(Stop::Run(RunFault::NoMemory)),
-        },
+    match system.read(alloc, path) {
+        Ok(bytes) => {
+            let mut input = FileBytes {
+                left: bytes.as_slice(),
+            };
+            run_timer(alloc, request, path, setting, &mut input, out, err).map_err(Stop::Run)
+        }
+        Err(TreeFault::Unreadable(Unreadable::Unopened)) => Err(unopened_stop(alloc, path)),
+        Err(TreeFault::Unreadable(Unreadable::Failed | Unreadable::NotUtf8)) => {
+            report_unread(request, path, setting, err).map_err(Stop::Run)
+        }
+        Err(TreeFault::NoMemory) => Err(Stop::Run(RunFault::NoMemory)),
+    }
+}
+
+/// Returns the stop for a timer file that can't be opened. The stop owns a copy of the path. If the copy can't be
+/// allocated, the stop is for running out of memory instead.
+fn unopened_stop(alloc: Global, path: &str) -> Stop
+    ensures { StopsAs {X = Unit} result (Err (unopened_stop path.now)) }
+{
+    match String::from_str(alloc, path) {
+        Ok(path) => Stop::Open(path),
+        Err(_) => Stop::Run(RunFault::NoMemory),
     }
 }
 

@@ -1,9 +1,9 @@
 -- What a whole run of `calendar-timers` writes, and its exit status: from the arguments to the bytes.
-use Rattle.std.specs.Prelude.{◌≡◌, ◌⊎◌, ◌==◌, ◌&&◌, ℕ, ℤ, Bool, true, false, not, List, [], ◌∷◌, Option, codes, length, if◌then◌else◌}
+use Rattle.std.specs.Prelude.{◌≡◌, ◌⊎◌, IsTrue, ◌==◌, ◌&&◌, ℕ, ℤ, Bool, true, false, not, List, [], ◌∷◌, Option, codes, length, if◌then◌else◌}
 use Rattle.std.specs.Io.KnownBytes.{Appends}
 use Rattle.cal_bytes.specs.rules.Bytes.{joined}
 use Rattle.cal_bytes.specs.rules.Writes.{AppendsFront}
-use Rattle.cal_machine.specs.rules.Seen.{Said}
+use Rattle.cal_machine.specs.rules.Seen.{Said, ClockShows}
 use Rattle.cal_timers_command.specs.declared.question.Command.{Command}
 use Rattle.cal_options.specs.rules.ArgumentFault.{help, usage}
 use Rattle.cal_timers_command.specs.rules.Asked.{IsCommandOf, IsFaultOf, shown_command}
@@ -14,11 +14,12 @@ use Rattle.cal_answers.specs.rules.Printed.{Printed}
 
 -- ## What is to be written
 
--- the answer to the question that the arguments ask, at whatever time the machine's clock shows
+-- the answer to the question that the arguments ask, at the time that the clock shows
 pub record IsAnswerTo (gives : Said → Bool) (arguments : List (List ℕ)) (style : Style) (printed : Printed) : Type 0 where
   pub command : Command
   pub asked : IsCommandOf arguments (shown_command command)
   pub clock : Option ℤ
+  pub shown : IsTrue (gives (ClockShows clock))
   pub answered : IsAnswerOn gives command clock style printed
 
 -- the help or the version that the arguments ask for

@@ -1,5 +1,5 @@
 -- What was read of a machine that may change meanwhile: which questions were asked, and how each was answered.
-use Rattle.std.specs.Prelude.{◌≡◌, ℕ, IsTrue, Bool, List, Option, None, Some, Result, Ok, Err}
+use Rattle.std.specs.Prelude.{◌≡◌, ℕ, ℤ, IsTrue, Bool, List, Option, None, Some, Result, Ok, Err}
 use Rattle.std.specs.Option.{unwrap_or}
 use Rattle.std.proofs.Common.{ap}
 use Rattle.cal_machine.specs.declared.tree.Unreadable.{Unreadable}
@@ -12,12 +12,14 @@ abbrev pub seen : {X Y : Type 0} → (X → Y) → Result X Unreadable → Resul
 seen view (Ok found) = Ok (view found)
 seen view (Err why) = Err why
 
--- a question, and the answer that a call gave
+-- A question, and the answer that a call gave. `ClockShows` is the time in seconds of Unix time, None if the clock can't
+-- be read.
 pub data Said : Type 0 where
   EntryIs : (path : List ℕ) → (answer : Result Entry Unreadable) → Said
   NamesAre : (folder : List ℕ) → (answer : Result Listing Unreadable) → Said
   FileIs : (file : List ℕ) → (answer : Result (List ℕ) Unreadable) → Said
   VariableIs : (name : List ℕ) → (answer : Result (Option (List ℕ)) Unreadable) → Said
+  ClockShows : (time : Option ℤ) → Said
 
 -- what was read: at most one answer to each question
 pub record Seen : Type 0 where

@@ -14,7 +14,7 @@ use Rattle.cal_load.specs.declared.target_fault.TargetReason.{TargetReason}
 use Rattle.cal_load.specs.declared.target_fault.TargetReason.TheVariants as reasons
 use Rattle.cal_load.specs.declared.timer_files.TimerFiles.{TimerFiles}
 use Rattle.cal_load.specs.declared.zones.UnusableZone.{UnusableZone}
-use Rattle.cal_machine.specs.declared.tree.Unreadable.TheVariants.{Failed, NotUtf8}
+use Rattle.cal_machine.specs.declared.tree.Unreadable.TheVariants.{Unopened, Failed, NotUtf8}
 use Rattle.cal_spec.specs.rules.SpecFault.{message_of}
 use Rattle.cal_timers_report.specs.rules.PrintableText.{printable_text}
 use Rattle.cal_timers_text.specs.rules.Messages.{broken_words, nothing_to_do, zone_message}
@@ -72,6 +72,7 @@ not_found_words target = if list_any is_slash target then codes "no such file or
 
 -- why the path of a unit can't be used
 unfoldable pub reason_words : Reason → List ℕ
+reason_words (Unreadable Unopened) = codes "cannot be read"
 reason_words (Unreadable Failed) = codes "cannot be read"
 reason_words (Unreadable NotUtf8) = codes "a link to a path that is not UTF-8"
 reason_words IsFolder = codes "is a directory"

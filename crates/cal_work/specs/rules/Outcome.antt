@@ -1,11 +1,12 @@
 -- The outcome of the program's work: a report, or a stop, which is what is reported if the work ends before the run.
 -- The outcome depends on a world: the parsed arguments, the files, the zones read from them, and the clock.
-use Rattle.std.specs.Prelude.{ℕ, ℤ, pos, not, ◌&&◌, int_lt, List, [], ◌∷◌, Option, None, Some, is_some, Result, Ok, Err, if◌then◌else◌}
+use Rattle.std.specs.Prelude.{ℕ, ℤ, pos, not, ◌&&◌, int_lt, nat_le, length, List, [], ◌∷◌, Option, None, Some, is_some, Result, Ok, Err, if◌then◌else◌}
 use Rattle.std.specs.FinMap.{insert, empty}
 use Rattle.jiff.specs.Types.{TimeZone}
 use Rattle.jiff.specs.Words.{read_whole as rule_read}
 use Rattle.cal_zone.specs.rules.Instant.{last_instant}
 use Rattle.cal_zone.specs.rules.Zone.{utc}
+use Rattle.cal_zone.specs.rules.ZoneFile.{file_limit}
 use Rattle.cal_zone.specs.rules.ZoneTable.{ZoneMap, zone_named}
 use Rattle.cal_civil.specs.rules.ZoneName.{is_zone_name}
 use Rattle.cal_zone.specs.rules.AddedZones.{is_taken}
@@ -19,27 +20,29 @@ use Rattle.cal_report.specs.rules.RunReport.{file_report, texts_report}
 use Rattle.cal_report.specs.rules.ReportLines.{Report}
 use Rattle.cal_request.specs.rules.RequestKind.{RequestKind, for_file, for_texts, kind_of}
 use Rattle.cal_request.specs.rules.Request.{Request}
+use Rattle.cal_timer.specs.rules.TimerEntries.{timer_file_limit}
 use Rattle.cal_work.specs.rules.Stop.{Stop, command_stop, load_stop, rule_stop, name_stop, clock_stop, unopened_stop, memory_stop, exit_status}
-use Rattle.cal_work.specs.rules.System.{Seen}
+use Rattle.cal_machine.specs.declared.tree.Unreadable.TheVariants.{Unopened, Failed, NotUtf8}
+use Rattle.cal_work.specs.rules.FileAnswer.{FileAnswer, within}
 use Rattle.cal_zone.specs.declared.zone_files.LoadFault.{LoadFault}
 use Rattle.cal_zone.specs.declared.zone_files.LoadFault.TheVariants.{ReadFailed, Zone}
 use Rattle.cal_zone.specs.rules.ZoneArgument.{ZoneArgument, in_utc, at_offset, by_rule, of_name}
 use Rattle.cal_request.specs.declared.request.RunFault.{RunFault}
 use Rattle.cal_request.specs.declared.request.RunFault.TheVariants as run
 
--- what the program sees of a zone file, and the zone that `jiff` reads from the file, if `jiff` accepts the file
+-- what the system answered about a zone file, and the zone that `jiff` reads from the file, if `jiff` accepts the file
 pub record ZoneFound : Type 0 where
-  pub seen : Seen
+  pub answer : FileAnswer
   pub zone : Option TimeZone
 
 -- Everything that the outcome depends on: the parsed arguments, what the program finds in each zone file (in the order
--- of the arguments), the local zone, the clock's time in seconds, and what the program sees of the timer file.
+-- of the arguments), the local zone, the clock's time in seconds, and what the system answered about the timer file.
 pub record World : Type 0 where
   pub parsed : Result Ask CommandFault
   pub zones : List ZoneFound
   pub local : ClockZone
   pub clock : Option ℤ
-  pub file : Seen
+  pub file : FileAnswer
 
 -- the result of the step `next` if the step before it returned a value, and otherwise the stop of that step
 abbrev pub and_then : {A B F : Type 0} → (A → Result B F) → Result A F → Result B F
@@ -53,20 +56,21 @@ abbrev pub with_zone : ZoneMap → List ℕ → Option TimeZone → Result ZoneM
 with_zone table name None = Err (Zone BadFile)
 with_zone table name (Some zone) = if is_taken table name then Err (Zone NameTaken) else Ok (insert table name zone)
 
-abbrev pub with_bytes : ZoneMap → List ℕ → Option TimeZone → Result (List ℕ) WholeFault → Result ZoneMap LoadFault
-with_bytes table name read (Ok bytes) = with_zone table name read
-with_bytes table name read (Err whole.ReadFailed) = Err ReadFailed
-with_bytes table name read (Err whole.TooLarge) = Err (Zone TooLarge)
-with_bytes table name read (Err whole.NoMemory) = Err (Zone NoMemory)
+-- The same, if these are the bytes of the file. First the name is checked, and then the size.
+abbrev pub with_bytes : ZoneMap → List ℕ → Option TimeZone → List ℕ → Result ZoneMap LoadFault
+with_bytes table name read bytes =
+    if is_zone_name name
+    then if nat_le (length bytes) file_limit then with_zone table name read else Err (Zone TooLarge)
+    else Err (Zone BadName)
 
--- the table with the zone of the file added, or why the file can't be loaded; the name is checked after the file is
--- opened, but before the file is read
-abbrev pub with_file : ZoneMap → List ℕ → Option TimeZone → Seen → Result ZoneMap LoadFault
-with_file table name read None = Err ReadFailed
-with_file table name read (Some came) = if is_zone_name name then with_bytes table name read came else Err (Zone BadName)
+-- the table with the zone of the file added, or why the file can't be loaded
+abbrev pub with_file : ZoneMap → List ℕ → Option TimeZone → FileAnswer → Result ZoneMap LoadFault
+with_file table name read None = Err (Zone NoMemory)
+with_file table name read (Some (Ok bytes)) = with_bytes table name read bytes
+with_file table name read (Some (Err why)) = Err ReadFailed
 
 unfoldable pub loaded : ZoneMap → ZoneItem → ZoneFound → Result ZoneMap LoadFault
-loaded table item found = with_file table item.name found.zone found.seen
+loaded table item found = with_file table item.name found.zone found.answer
 
 abbrev pub or_load_stop : List ℕ → Result ZoneMap LoadFault → Result ZoneMap Stop
 or_load_stop name (Ok table) = Ok table
@@ -110,21 +114,21 @@ present_by None clock = clock_by clock
 -- ## The fourth step: reading the timer file and running the request
 
 -- the result of reading the timer file, or the stop if the file can't be opened or memory runs out
-abbrev pub input_by : List ℕ → Seen → Result (Result (List ℕ) WholeFault) Stop
-input_by path None = Err (unopened_stop path)
-input_by path (Some (Ok bytes)) = Ok (Ok bytes)
-input_by path (Some (Err whole.ReadFailed)) = Ok (Err whole.ReadFailed)
-input_by path (Some (Err whole.TooLarge)) = Ok (Err whole.TooLarge)
-input_by path (Some (Err whole.NoMemory)) = Err memory_stop
+abbrev pub input_by : List ℕ → FileAnswer → Result (Result (List ℕ) WholeFault) Stop
+input_by path None = Err memory_stop
+input_by path (Some (Ok bytes)) = Ok (within timer_file_limit bytes)
+input_by path (Some (Err Unopened)) = Err (unopened_stop path)
+input_by path (Some (Err Failed)) = Ok (Err whole.ReadFailed)
+input_by path (Some (Err NotUtf8)) = Ok (Err whole.ReadFailed)
 
 -- if the request is for texts, their report, for which no file is read; if it is for a timer file, the report for the
 -- result of reading this file, or the stop that `input_by` returns
-abbrev pub run_on : Request → Seen → RequestKind → Result Report Stop
-run_on asked seen (for_texts verb texts) = Ok (texts_report asked verb texts)
-run_on asked seen (for_file path) = and_then (λ read. Ok (file_report asked path read)) (input_by path seen)
+abbrev pub run_on : Request → FileAnswer → RequestKind → Result Report Stop
+run_on asked answer (for_texts verb texts) = Ok (texts_report asked verb texts)
+run_on asked answer (for_file path) = and_then (λ read. Ok (file_report asked path read)) (input_by path answer)
 
-unfoldable pub run_by : Request → Seen → Result Report Stop
-run_by asked seen = run_on asked seen (kind_of asked)
+unfoldable pub run_by : Request → FileAnswer → Result Report Stop
+run_by asked answer = run_on asked answer (kind_of asked)
 
 -- ## All steps together
 

@@ -3,11 +3,12 @@
 -- for (`IsAskOf`), what an accepted expression and its elapses are (Headline.antt of `cal_report`), and how a cut
 -- output can be continued (Resume.antt of `cal_report`). You needn't read `outcome`, `report` or the functions that
 -- compute elapses, which they call.
-use Rattle.std.specs.Prelude.{◌≡◌, ◌<◌, ◌++◌, ℕ, ℤ, false, List, [], ◌∷◌, length, codes, Option, None, Some, Result, Ok, Err}
+use Rattle.std.specs.Prelude.{◌≡◌, ◌<◌, ◌++◌, ℕ, ℤ, IsTrue, Bool, false, List, [], ◌∷◌, length, codes, Option, None, Some, Result, Ok, Err}
 use Rattle.std.specs.FinMap.{empty, insert}
 use Rattle.std.specs.Io.KnownBytes.{Appends, Keeps}
 use Rattle.jiff.specs.Types.{TimeZone}
 use Rattle.cal_bytes.specs.declared.whole.WholeFault.{WholeFault}
+use Rattle.cal_bytes.specs.declared.whole.WholeFault.TheVariants.{ReadFailed}
 use Rattle.cal_zone.specs.rules.AddedZones.{is_taken}
 use Rattle.cal_zone.specs.rules.Instant.{IsInstant}
 use Rattle.cal_zone.specs.rules.ZoneFile.{IsFileZone}
@@ -24,34 +25,36 @@ use Rattle.cal_report.specs.rules.ReportLines.{Report}
 use Rattle.cal_report.specs.rules.Resume.{AreAcceptedAmong, Begins, Resumes, ResumesAmong}
 use Rattle.cal_report.specs.rules.RunReport.{whole_report}
 use Rattle.cal_work.specs.rules.Stop.{exit_status}
-use Rattle.cal_work.specs.rules.System.{Known, GivesTime, Opens, Sees}
+use Rattle.cal_machine.specs.declared.tree.Unreadable.{Unreadable}
+use Rattle.cal_machine.specs.rules.Seen.{Said, ClockShows, FileIs}
+use Rattle.cal_work.specs.rules.FileAnswer.{within}
 use Rattle.cal_work.specs.rules.Works.{IsLocal}
 use Rattle.cal_work.specs.declared.arguments_to_bytes.Ended.{Ended}
 
 -- ## From the arguments to a request
 
 -- `now` is the present instant: the one that the arguments give, or, if they give none, the time that the clock shows
-abbrev pub IsPresent : Known → Option ℤ → ℤ → Type 0
-IsPresent known (Some given) now = (now ≡ given) × IsInstant now
-IsPresent known None now = GivesTime known.time (Some now) × IsInstant now
+abbrev pub IsPresent : (Said → Bool) → Option ℤ → ℤ → Type 0
+IsPresent gives (Some given) now = (now ≡ given) × IsInstant now
+IsPresent gives None now = IsTrue (gives (ClockShows (Some now))) × IsInstant now
 
--- `table` has the zones in `before`, and the zone of each of these files: the one that `jiff` reads from the bytes of
--- the file, under the name that the arguments give it. It has no other zones, and no name stands for two zones.
-abbrev pub AreZonesOf : Known → ZoneMap → List ZoneItem → ZoneMap → Type 0
-AreZonesOf known before [] table = table ≡ before
-AreZonesOf known before (item ∷ items) table =
-    (bytes : List ℕ) × (tz : TimeZone) × Opens (known.file item.path) (Some (Some bytes)) × IsFileZone item.name bytes tz
-    × (is_taken before item.name ≡ false) × AreZonesOf known (insert before item.name tz) items table
+-- `table` has the zones in `before`, and the zone of each of these files: the one that `jiff` reads from the bytes that
+-- the system gave, under the name that the arguments give it. It has no other zones, and no name stands for two zones.
+abbrev pub AreZonesOf : (Said → Bool) → ZoneMap → List ZoneItem → ZoneMap → Type 0
+AreZonesOf gives before [] table = table ≡ before
+AreZonesOf gives before (item ∷ items) table =
+    (bytes : List ℕ) × (tz : TimeZone) × IsTrue (gives (FileIs item.path (Ok bytes))) × IsFileZone item.name bytes tz
+    × (is_taken before item.name ≡ false) × AreZonesOf gives (insert before item.name tz) items table
 
 -- `asked` is the request that the arguments make of the system. Its verb, texts, number of elapses, base time and local
 -- zone are those that the arguments give. Its present and its zones come from the arguments, the clock and the files.
-pub record IsRequestOf (known : Known) (ask : Ask) (asked : Request) : Type 0 where
+pub record IsRequestOf (gives : Said → Bool) (ask : Ask) (asked : Request) : Type 0 where
   pub verb : asked.verb ≡ ask.verb
   pub texts : asked.texts ≡ ask.texts
   pub iterations : asked.iterations ≡ ask.iterations
   pub base : asked.base ≡ ask.base
-  pub now : IsPresent known ask.now asked.now
-  pub zones : AreZonesOf known empty ask.zones asked.zones
+  pub now : IsPresent gives ask.now asked.now
+  pub zones : AreZonesOf gives empty ask.zones asked.zones
   pub local : IsLocal ask.local asked.zones asked.local
 
 -- ## Which report answers a request
@@ -65,6 +68,11 @@ pub record AnswersTexts (asked : Request) (base : ℤ) (report : Report) : Type 
   pub cut : (front rest : List ℕ) (read : Result (List ℕ) WholeFault) → report.out ≡ front ++ rest
       → 0 < length expressions → ResumesAmong asked base expressions read front
 
+-- the result of reading a timer file about which the system gave this answer
+abbrev pub timer_read : Result (List ℕ) Unreadable → Result (List ℕ) WholeFault
+timer_read (Ok bytes) = within timer_file_limit bytes
+timer_read (Err why) = Err ReadFailed
+
 -- What answers a timer file, given the result of reading it. If it was read and is accepted: its report, every prefix
 -- of which can be continued. Otherwise: an error line, which begins with the file's path.
 abbrev pub IsAnswerToFile : Request → ℤ → Result (List ℕ) WholeFault → Result (List ℕ) (List ℕ) → Type 0
@@ -75,19 +83,20 @@ IsAnswerToFile asked base (Ok bytes) (Err line) = (IsAcceptedFile asked bytes �
 IsAnswerToFile asked base (Err fault) (Ok text) = ⊥
 IsAnswerToFile asked base (Err fault) (Err line) = Begins line (timer_path asked.texts ++ codes ":")
 
--- the report is the answer to the timer file that the request names, and `read` is the result of reading this file
-pub record AnswersFile (known : Known) (asked : Request) (base : ℤ) (report : Report) : Type 0 where
-  pub read : Result (List ℕ) WholeFault
-  pub file : Sees known timer_file_limit (timer_path asked.texts) (Some read)
+-- the report is the answer to the timer file that the request names, and `found` is what the system said about this
+-- file
+pub record AnswersFile (gives : Said → Bool) (asked : Request) (base : ℤ) (report : Report) : Type 0 where
+  pub found : Result (List ℕ) Unreadable
+  pub given : IsTrue (gives (FileIs (timer_path asked.texts) found))
   pub answer : Result (List ℕ) (List ℕ)
-  pub right : IsAnswerToFile asked base read answer
+  pub right : IsAnswerToFile asked base (timer_read found) answer
   pub whole : report ≡ whole_report answer
 
 -- the report answers a request with this verb; only `calendar` and `timer` compute elapses
-abbrev pub Answers : Verb → Known → Request → ℤ → Report → Type 0
-Answers Calendar known asked base report = AnswersTexts asked base report
-Answers Timer known asked base report = AnswersFile known asked base report
-Answers _ known asked base report = ⊥
+abbrev pub Answers : Verb → (Said → Bool) → Request → ℤ → Report → Type 0
+Answers Calendar gives asked base report = AnswersTexts asked base report
+Answers Timer gives asked base report = AnswersFile gives asked base report
+Answers _ gives asked base report = ⊥
 
 -- ## What is printed
 
@@ -101,13 +110,13 @@ HasReached None reached front = ⊥
 -- The program printed the answer to what the arguments ask for, or a prefix of it. Its status is 0 only if everything
 -- was written. If everything was written, both outputs have exactly the bytes of the report, and the status is that of
 -- the report. In any case, what reached standard output is a prefix of the report.
-pub record PrintsAnswer (known : Known) (ask : Ask) (ended : Ended) (out reached err err' : Option (List ℕ)) : Type 0 where
+pub record PrintsAnswer (gives : Said → Bool) (ask : Ask) (ended : Ended) (out reached err err' : Option (List ℕ)) : Type 0 where
   pub asked : Request
-  pub request : IsRequestOf known ask asked
+  pub request : IsRequestOf gives ask asked
   pub base : ℤ
   pub sought : IsBase asked base
   pub report : Report
-  pub answers : Answers ask.verb known asked base report
+  pub answers : Answers ask.verb gives asked base report
   pub success : ended.status ≡ 0 → ended.written ≡ Ok tt
   pub printed : ended.written ≡ Ok tt
       → Appends out reached report.out × Appends err err' report.err × (ended.status ≡ exit_status report.status)

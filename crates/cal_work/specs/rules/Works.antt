@@ -1,6 +1,6 @@
--- From the arguments to the bytes: there is a world that agrees with everything that is known about the system, and the
--- bytes written and the status agree with the outcome in this world. A world is everything that the outcome depends on.
-use Rattle.std.specs.Prelude.{◌≡◌, ℕ, Bool, true, false, List, [], ◌∷◌, Option, None, Some, Result, Ok, Err, IfOk, IfNone}
+-- From the arguments to the bytes: there is a world that consists of answers of the system, and the bytes written and
+-- the status agree with the outcome in this world. A world is everything that the outcome depends on.
+use Rattle.std.specs.Prelude.{◌≡◌, ◌≤◌, ℕ, IsTrue, Bool, true, false, List, [], ◌∷◌, length, Option, None, Some, Result, Ok, Err, IfOk, IfNone}
 use Rattle.std.specs.FinMap.{empty}
 use Rattle.std.specs.Io.KnownBytes.{Keeps, Appends, append_known}
 use Rattle.jiff.specs.Placed.{IsPosixZone}
@@ -14,18 +14,18 @@ use Rattle.cal_civil.specs.rules.ZoneName.{is_utc_name, is_zone_name}
 use Rattle.cal_zone.specs.declared.zone.Zone.{Zone as ClockZone}
 use Rattle.cal_zone.specs.declared.zone_fault.ZoneFault.TheVariants.{BadFile}
 use Rattle.cal_zone.specs.rules.ZoneArgument.{ZoneArgument, in_utc, at_offset, by_rule, of_name}
-use Rattle.cal_timer.specs.rules.TimerEntries.{timer_file_limit}
 use Rattle.cal_command.specs.rules.Ask.{Ask, ZoneItem}
 use Rattle.cal_command.specs.rules.CommandLine.{IsAskOf}
 use Rattle.cal_work.specs.rules.Outcome.{World, ZoneFound, loaded, table_by, local_by, present_by, asked_at, outcome, out_text, err_text, ended_status}
 use Rattle.cal_request.specs.rules.RequestKind.{RequestKind, for_file, for_texts, kind_of}
 use Rattle.cal_request.specs.rules.Request.{Request}
 use Rattle.cal_work.specs.rules.Stop.{fault_stop}
-use Rattle.cal_work.specs.rules.System.{Known, Seen, Sees, GivesTime}
+use Rattle.cal_machine.specs.rules.Seen.{Said, ClockShows}
+use Rattle.cal_work.specs.rules.FileAnswer.{FileAnswer, Gave}
 use Rattle.cal_request.specs.declared.request.RunFault.{RunFault}
 use Rattle.cal_work.specs.declared.arguments_to_bytes.Ended.{Ended}
 
--- ## A world that agrees with what is known, as far as the program asked for it
+-- ## A world that consists of answers of the system, as far as the program asked for them
 
 -- `jiff` reads this zone from a zone file with this name and these bytes, or, if there is no zone (`None`), it rejects
 -- the file
@@ -33,22 +33,23 @@ abbrev pub IsReadZone : List ℕ → List ℕ → Option TimeZone → Type 0
 IsReadZone name bytes None = IsFileFault name bytes BadFile
 IsReadZone name bytes (Some zone) = IsFileZone name bytes zone
 
-abbrev pub ReadsZone : List ℕ → Seen → Option TimeZone → Type 0
+-- `jiff` only reads a file whose zone has a valid name and which isn't too large
+abbrev pub ReadsZone : List ℕ → FileAnswer → Option TimeZone → Type 0
 ReadsZone name None read = Unit {0}
-ReadsZone name (Some (Err fault)) read = Unit {0}
-ReadsZone name (Some (Ok bytes)) read = is_zone_name name ≡ true → IsReadZone name bytes read
+ReadsZone name (Some (Err why)) read = Unit {0}
+ReadsZone name (Some (Ok bytes)) read = is_zone_name name ≡ true → length bytes ≤ file_limit → IsReadZone name bytes read
 
-pub record SeesZone (known : Known) (item : ZoneItem) (found : ZoneFound) : Type 0 where
-  pub sees : Sees known file_limit item.path found.seen
-  pub reads : ReadsZone item.name found.seen found.zone
+pub record SeesZone (gives : Said → Bool) (item : ZoneItem) (found : ZoneFound) : Type 0 where
+  pub given : Gave gives item.path found.answer
+  pub reads : ReadsZone item.name found.answer found.zone
 
--- `found` is what the program finds in the zone files, in order, and agrees with what is known about the files. The
--- files after the first one that can't be loaded are not opened, so nothing is required of their entries in `found`.
-abbrev pub SeesZones : Known → ZoneMap → List ZoneItem → List ZoneFound → Type 0
-SeesZones known table [] found = Unit {0}
-SeesZones known table (item ∷ items) [] = ⊥
-SeesZones known table (item ∷ items) (f ∷ found) =
-    SeesZone known item f × IfOk (loaded table item f) (λ more. SeesZones known more items found)
+-- `found` is what the program finds in the zone files, in order. The files after the first one that can't be loaded are
+-- not read, so nothing is required of their entries in `found`.
+abbrev pub SeesZones : (Said → Bool) → ZoneMap → List ZoneItem → List ZoneFound → Type 0
+SeesZones gives table [] found = Unit {0}
+SeesZones gives table (item ∷ items) [] = ⊥
+SeesZones gives table (item ∷ items) (f ∷ found) =
+    SeesZone gives item f × IfOk (loaded table item f) (λ more. SeesZones gives more items found)
 
 -- `zone` is the local zone that the arguments ask for, as `jiff` represents it
 abbrev pub IsLocal : ZoneArgument → ZoneMap → ClockZone → Type 0
@@ -58,28 +59,28 @@ IsLocal (at_offset seconds) table zone =
 IsLocal (by_rule rule) table zone = (is_utc zone ≡ false) × IsPosixZone rule (zone_of zone)
 IsLocal (of_name name) table zone = (is_utc zone ≡ is_utc_name name) × (zone_named table name ≡ Some (zone_of zone))
 
--- what the program sees of the timer file, if the request is for one, agrees with what is known about it
-abbrev pub SeesFor : RequestKind → Known → Seen → Type 0
-SeesFor (for_texts verb texts) known seen = Unit {0}
-SeesFor (for_file path) known seen = Sees known timer_file_limit path seen
+-- the system gave this answer about the timer file, if the request is for one
+abbrev pub SeesFor : RequestKind → (Said → Bool) → FileAnswer → Type 0
+SeesFor (for_texts verb texts) gives answer = Unit {0}
+SeesFor (for_file path) gives answer = Gave gives path answer
 
-abbrev pub SeesFile : Known → Request → Seen → Type 0
-SeesFile known asked seen = SeesFor (kind_of asked) known seen
+abbrev pub SeesFile : (Said → Bool) → Request → FileAnswer → Type 0
+SeesFile gives asked answer = SeesFor (kind_of asked) gives answer
 
-abbrev pub FitsAt : Known → Ask → World → ZoneMap → Type 0
-FitsAt known ask world table =
+abbrev pub FitsAt : (Said → Bool) → Ask → World → ZoneMap → Type 0
+FitsAt gives ask world table =
     IfOk (local_by ask.local table world.local) (λ local. IsLocal ask.local table local
-    × IfNone ask.now (GivesTime known.time world.clock)
-    × IfOk (present_by ask.now world.clock) (λ now. SeesFile known (asked_at ask table local now) world.file))
+    × IfNone ask.now (IsTrue (gives (ClockShows world.clock)))
+    × IfOk (present_by ask.now world.clock) (λ now. SeesFile gives (asked_at ask table local now) world.file))
 
-pub record Fits (known : Known) (ask : Ask) (world : World) : Type 0 where
-  pub zones : SeesZones known empty ask.zones world.zones
-  pub after : IfOk (table_by empty ask.zones world.zones) (FitsAt known ask world)
+pub record Fits (gives : Said → Bool) (ask : Ask) (world : World) : Type 0 where
+  pub zones : SeesZones gives empty ask.zones world.zones
+  pub after : IfOk (table_by empty ask.zones world.zones) (FitsAt gives ask world)
 
 -- `world.parsed` is what the arguments parse to, and everything else in the world fits what they ask for
-pub record FitsArguments (known : Known) (arguments : List (List ℕ)) (world : World) : Type 0 where
+pub record FitsArguments (gives : Said → Bool) (arguments : List (List ℕ)) (world : World) : Type 0 where
   pub parsed : IsAskOf arguments world.parsed
-  pub fits : IfOk world.parsed (λ ask. Fits known ask world)
+  pub fits : IfOk world.parsed (λ ask. Fits gives ask world)
 
 -- ## What reaches the outputs
 
@@ -104,10 +105,10 @@ pub record WritesErr {T : Type 0} (old new : Option (List ℕ)) (failed : Bool) 
   pub line : ReportsFault before new failed written
 
 -- the status and the bytes that the program wrote agree, as `Reaches` and `WritesErr` say, with the outcome in a world
--- that fits the arguments and what is known
-pub record Works (known : Known) (arguments : List (List ℕ)) (out reached err err' : Option (List ℕ)) (err_failed : Bool) (ended : Ended) : Type 0 where
+-- that fits the arguments and has only answers of the system
+pub record Works (gives : Said → Bool) (arguments : List (List ℕ)) (out reached err err' : Option (List ℕ)) (err_failed : Bool) (ended : Ended) : Type 0 where
   pub world : World
-  pub fits : FitsArguments known arguments world
+  pub fits : FitsArguments gives arguments world
   pub status : ended.status ≡ ended_status ended.written (outcome world)
   pub out_bytes : Reaches out reached ended.written (out_text (outcome world))
   pub err_bytes : WritesErr err err' err_failed ended.written (err_text (outcome world))

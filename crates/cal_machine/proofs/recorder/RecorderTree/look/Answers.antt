@@ -12,7 +12,7 @@ pub invariant_of-self : goal.invariant_of-self
 invariant_of-self g c =
     let before = c.args.self.now.honest in
     let answer = c.in_ok-answer.answer in
-    let Given : Result Entry Unreadable → Type 0 = λ answer. IsTrue (g.R.Raw.gives (EntryIs c.args.path.now answer)) in
+    let Given : Result Entry Unreadable → Type 0 = λ answer. IsTrue (g.S.System.gives (EntryIs c.args.path.now answer)) in
     record {
       honest = record {
         in_entries = still (get_by_text c.args.self.now.entries) (get_by_text c.keep.new.recorded) _ c.args.path.now answer c.keep.ensures.adds

@@ -12,7 +12,7 @@ pub invariant_of-self : goal.invariant_of-self
 invariant_of-self g c =
     let before = c.args.self.now.honest in
     let answer = c.in_ok-answer.answer in
-    let Given : Result Listing Unreadable → Type 0 = λ answer. IsTrue (g.R.Raw.gives (NamesAre c.args.folder.now answer)) in
+    let Given : Result Listing Unreadable → Type 0 = λ answer. IsTrue (g.S.System.gives (NamesAre c.args.folder.now answer)) in
     record {
       honest = record {
         in_entries = before.in_entries;

@@ -12,7 +12,7 @@ pub invariant_of-self : goal.invariant_of-self
 invariant_of-self g c =
     let before = c.args.self.now.honest in
     let answer = c.in_ok-answer.answer in
-    let Given : Result (List ℕ) Unreadable → Type 0 = λ answer. IsTrue (g.R.Raw.gives (FileIs c.args.file.now answer)) in
+    let Given : Result (List ℕ) Unreadable → Type 0 = λ answer. IsTrue (g.S.System.gives (FileIs c.args.file.now answer)) in
     record {
       honest = record {
         in_entries = before.in_entries;

@@ -1,51 +1,9 @@
-//! Reports and error lines with a system in memory, whose file and clock are known to the contracts.
-
-ghost use Rattle.std.specs.Prelude.{None, Some, true, if◌then◌else◌, bytes_eq};
+//! Reports and error lines.
 
 use super::{check, check_refused, perform};
-use cal_bytes::Port;
-use cal_library_tests::shared::{NEW_YEAR, ensure, zone_file};
-use cal_work::System;
+use cal_library_tests::memory::{Item, Memory};
+use cal_library_tests::shared::{ensure, zone_file};
 use std::test::Fail;
-
-/// A system with one file, and a clock that always returns `time`.
-#[derive(Clone, Copy)]
-struct Memory<'a> {
-    path: &'a str,
-    bytes: &'a [u8],
-    time: Option<i64>,
-}
-
-impl<'a> System for Memory<'a> {
-    type File = Port<&'a [u8]>;
-
-    ghost tells = { λ memory. record {
-      file = λ path. Some (if bytes_eq path memory.path.now then Some memory.bytes.now else None);
-      may_fail = λ _. true;
-      time = Some memory.time;
-    } };
-
-    fn open(&self, path: &str) -> Option<Port<&'a [u8]>> {
-        if path == self.path {
-            Some(Port::new(self.bytes))
-        } else {
-            None
-        }
-    }
-
-    fn clock(&self) -> Option<i64> {
-        self.time
-    }
-}
-
-/// Returns a system with the file `f`, whose clock always shows the start of 2024.
-fn with_file(bytes: &[u8]) -> Memory<'_> {
-    Memory {
-        path: "f",
-        bytes,
-        time: Some(NEW_YEAR),
-    }
-}
 
 const ZONE_OF_AN_EXPRESSION: &str = "  Original form: daily Test/Fixed
 Normalized form: *-*-* 00:00:00 Test/Fixed
@@ -62,16 +20,16 @@ Normalized form: *-*-* *:00:00
 /// Tests reports with a zone file that is loaded with `--zones`, and with a timer file.
 #[test]
 fn reports(rt: HostRuntime) -> Result<(), Fail> {
-    let bytes = zone_file(rt.alloc())?;
+    let zone = zone_file(rt.alloc())?;
+    let items = [
+        ("f", Item::File(zone.as_slice())),
+        ("h", Item::File(b"[Timer]\nOnCalendar=hourly\n")),
+    ];
+    let memory = Memory::new(&items);
     let line = "calendar|--zones=Test/Fixed=f|daily Test/Fixed|daily Test/West";
     let err = "daily Test/West: no such zone\n";
-    check(
-        rt.alloc(),
-        &with_file(&bytes),
-        (line, ZONE_OF_AN_EXPRESSION, err, 1),
-    )?;
-    let timer = with_file(b"[Timer]\nOnCalendar=hourly\n");
-    check(rt.alloc(), &timer, ("timer|f", HOURLY, "", 0))
+    check(rt.alloc(), memory, (line, ZONE_OF_AN_EXPRESSION, err, 1))?;
+    check(rt.alloc(), memory, ("timer|h", HOURLY, "", 0))
 }
 
 /// Options that are rejected, each with its error line. The first line has two bad values, of which only the first one
@@ -103,10 +61,11 @@ timespan|5x -> 5x: unknown unit
 
 #[test]
 fn refusals(rt: HostRuntime) -> Result<(), Fail> {
-    let bytes = zone_file(rt.alloc())?;
-    let memory = with_file(&bytes);
-    check_refused(rt.alloc(), &memory, REFUSED_OPTIONS, 2)?;
-    check_refused(rt.alloc(), &memory, REFUSED_TEXTS, 1)
+    let zone = zone_file(rt.alloc())?;
+    let items = [("f", Item::File(zone.as_slice()))];
+    let memory = Memory::new(&items);
+    check_refused(rt.alloc(), memory, REFUSED_OPTIONS, 2)?;
+    check_refused(rt.alloc(), memory, REFUSED_TEXTS, 1)
 }
 
 /// Lines of arguments, each with the error line of its first error, which is the only error reported. The clock has no
@@ -125,30 +84,33 @@ timespan|1h -> calendar-analyze: clock out of range
 ";
 
 /// Lines of arguments, each with the error line of its first error. The clock works, and the files are the same as for
-/// [`WITHOUT_CLOCK`].
+/// [`WITHOUT_CLOCK`]. The file `l` can be opened, but not read.
 const WITH_CLOCK: &str = "\
 timer|--base-time=Mon 2012-11-23|g -> g: cannot be read
 timer|--base-time=Mon 2012-11-23|f -> --base-time: weekday does not fit the date
+timer|--base-time=Mon 2012-11-23|l -> --base-time: weekday does not fit the date
+timer|l -> l: cannot be read
 ";
 
 #[test]
 fn the_first_is_told(rt: HostRuntime) -> Result<(), Fail> {
-    let memory = with_file(b"hello");
+    let items = [("f", Item::File(b"hello")), ("l", Item::Locked)];
+    let memory = Memory::new(&items);
     for time in &[None, Some(-1), Some(7_258_211_999)] {
         let time = *time;
-        check_refused(rt.alloc(), &Memory { time, ..memory }, WITHOUT_CLOCK, 2)?;
+        check_refused(rt.alloc(), Memory { time, ..memory }, WITHOUT_CLOCK, 2)?;
     }
-    check_refused(rt.alloc(), &memory, WITH_CLOCK, 1)
+    check_refused(rt.alloc(), memory, WITH_CLOCK, 1)
 }
 
 /// Checks that help goes to standard output, and usage errors go to standard error.
 #[test]
 fn help_and_usage(rt: HostRuntime) -> Result<(), Fail> {
-    let memory = with_file(b"");
-    let help = perform(rt.alloc(), &memory, "--help")?;
+    let memory = Memory::new(&[]);
+    let help = perform(rt.alloc(), memory, "--help")?;
     ensure(!help.out.is_empty() && help.err.is_empty(), "--help")?;
     ensure(help.status == 0, "--help")?;
-    let usage = perform(rt.alloc(), &memory, "")?;
+    let usage = perform(rt.alloc(), memory, "")?;
     ensure(usage.out.is_empty() && !usage.err.is_empty(), "usage")?;
     ensure(usage.status == 2, "usage")
 }

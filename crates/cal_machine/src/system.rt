@@ -1,20 +1,24 @@
-//! The calls by which a machine is read.
+//! The system that a program runs on.
 
 ghost use Rattle.std.specs.Prelude.{IsTrue, Bool, option_map, string_bytes, true};
 ghost use Rattle.cal_machine.specs.rules.Machine.{IfSaid, bytes_of, shown_entry, shown_listing};
-ghost use Rattle.cal_machine.specs.rules.Seen.{Said, NamesAre, EntryIs, FileIs, VariableIs};
+ghost use Rattle.cal_machine.specs.rules.Seen.{Said, ClockShows, NamesAre, EntryIs, FileIs, VariableIs};
 
 use crate::tree::{Entry, Names, TreeFault};
 use std::alloc::Global;
 
-/// The calls by which a machine is read. Nothing is promised about what they return: the machine may change, so the
-/// same call may return something else each time.
+/// The system that a program runs on: its folders, files and links, its environment variables and its clock. Both
+/// programs reach them only through this trait. Their arguments and outputs are passed separately.
+///
+/// Nothing is promised about what the calls return: the system may change, so the same call may return something else
+/// each time.
 ///
 /// `gives` is true of every answer that a call returns; running out of memory isn't an answer. This is all that code
-/// generic over `Raw` knows of `gives`. So if such code proves `gives` of an answer, a call has returned this answer.
+/// generic over `System` knows of `gives`. So if such code proves `gives` of an answer, a call has returned this answer.
 ///
-/// Paths have the form that [`crate::Tree`] explains.
-pub trait Raw {
+/// For `look` and `names`, paths have the form that [`crate::Tree`] explains. `read` accepts any path, and follows its
+/// links as the system does.
+pub trait System {
     /// Whether a call may give this answer to this question.
     ghost gives: { Said → Bool } = { λ _. true };
 
@@ -26,11 +30,20 @@ pub trait Raw {
     fn names(&self, alloc: Global, folder: &str) -> Result<Names, TreeFault>
         ensures { IfSaid shown_listing result (λ answer. IsTrue (gives (NamesAre folder.now answer))) };
 
-    /// Returns the bytes of a file, at most the first [`crate::FILE_BYTES`] of them.
+    /// Returns the bytes of a file, at most the first [`crate::FILE_BYTES`] of them. Fails with
+    /// [`crate::Unreadable::Unopened`] if the file can't be opened.
     fn read(&self, alloc: Global, file: &str) -> Result<Vec<u8>, TreeFault>
         ensures { IfSaid bytes_of result (λ answer. IsTrue (gives (FileIs file.now answer))) };
 
     /// Returns the value of an environment variable, or `None` if the variable isn't set.
     fn variable(&self, alloc: Global, name: &str) -> Result<Option<String>, TreeFault>
         ensures { IfSaid (option_map string_bytes) result (λ answer. IsTrue (gives (VariableIs name.now answer))) };
+
+    /// Returns the time that the clock shows, in whole seconds since 1970-01-01 00:00:00 UTC. Returns `None` if the
+    /// clock can't be read; the real system also returns `None` for a time before 1970.
+    fn clock(&self) -> Option<i64>
+        ensures { IsTrue (gives (ClockShows result)) };
+
+    /// Returns the part of the system below this folder, or the whole system if the path is empty.
+    fn below(self, root: String) -> Self;
 }

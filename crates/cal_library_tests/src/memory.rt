@@ -1,7 +1,7 @@
-//! A machine in memory, with files, links and folders at given paths.
+//! A system in memory: files, links and folders at given paths, and a clock that stands still.
 
-use cal_answers::System;
-use cal_machine::{Entry, Names, Raw, TreeFault, Unreadable};
+use crate::shared::NEW_YEAR;
+use cal_machine::{Entry, Names, System, TreeFault, Unreadable};
 use std::alloc::{AllocError, Global};
 
 /// What is at a path.
@@ -15,19 +15,29 @@ pub enum Item<'a> {
     Unnamed,
     /// A folder that can't be listed.
     Closed,
-    /// A file that can't be read.
+    /// A file that can be opened, but not read.
     Locked,
     /// Something that can't even be examined.
     Hidden,
 }
 
-/// A machine with these items, each at its path, and with the folders above them.
+/// A system with these items, each at its path, and with the folders above them.
 #[derive(Clone, Copy, Debug)]
 pub struct Memory<'a> {
     pub items: &'a [(&'a str, Item<'a>)],
+    /// The time that the clock shows, in seconds of Unix time.
+    pub time: Option<i64>,
 }
 
 impl<'a> Memory<'a> {
+    /// Returns a system with these items, whose clock always shows [`NEW_YEAR`].
+    pub fn new(items: &'a [(&'a str, Item<'a>)]) -> Memory<'a> {
+        Memory {
+            items,
+            time: Some(NEW_YEAR),
+        }
+    }
+
     fn at(&self, path: &str) -> Option<Item<'a>> {
         for (name, item) in self.items {
             if *name == path {
@@ -63,7 +73,7 @@ fn name_below<'p>(folder: &str, path: &'p str) -> Option<&'p str> {
     names.split('/').next()
 }
 
-impl<'a> Raw for Memory<'a> {
+impl<'a> System for Memory<'a> {
     fn look(&self, alloc: Global, path: &str) -> Result<Entry, TreeFault> {
         match self.at(path) {
             None if self.is_folder(path) => Ok(Entry::Folder),
@@ -90,7 +100,8 @@ impl<'a> Raw for Memory<'a> {
     fn read(&self, alloc: Global, file: &str) -> Result<Vec<u8>, TreeFault> {
         match self.at(file) {
             Some(Item::File(bytes)) => Ok(Vec::from_slice(alloc, bytes)?),
-            _ => Err(TreeFault::Unreadable(Unreadable::Failed)),
+            Some(Item::Locked) => Err(TreeFault::Unreadable(Unreadable::Failed)),
+            _ => Err(TreeFault::Unreadable(Unreadable::Unopened)),
         }
     }
 
@@ -100,14 +111,12 @@ impl<'a> Raw for Memory<'a> {
         }
         Ok(None)
     }
-}
-
-impl<'a> System for Memory<'a> {
-    fn below(self, _root: String) -> Memory<'a> {
-        self
-    }
 
     fn clock(&self) -> Option<i64> {
-        Some(1_704_067_200)
+        self.time
+    }
+
+    fn below(self, _root: String) -> Memory<'a> {
+        self
     }
 }

@@ -1,9 +1,7 @@
-//! The real system: its folders, files and links, and the variables of the environment. Nothing is proved about what
-//! they contain. They can change while the program runs, so the program reads all of this through a
-//! [`cal_machine::Recorder`].
+//! The real system, reached through the runtime of the program. Nothing is proved about what it contains.
 
-use cal_answers::System;
-use cal_machine::{Entry, FILE_BYTES, Names, Raw, TreeFault, Unreadable};
+use crate::system::System;
+use crate::tree::{Entry, FILE_BYTES, Names, TreeFault, Unreadable};
 use std::alloc::{AllocError, Global};
 use std::fs::DirEntry;
 use std::io::{Error, ErrorKind, Read};
@@ -13,45 +11,30 @@ use std::{env, fs, io};
 
 /// The system that the program runs on, or the part of it below a root folder.
 #[derive(Drop)]
-pub struct Machine<'a, R> {
+pub struct HostSystem<'a, R> {
     /// The runtime, through which everything is read.
-    pub rt: &'a R,
+    rt: &'a R,
     /// The root folder, to which absolute paths are relative. Empty for the system's own root.
-    pub root: String,
+    root: String,
 }
 
-impl<'a, R: Files + Env + Clock + AllocGlobal + Clone + Drop> System for Machine<'a, R> {
-    fn below(self, root: String) -> Machine<'a, R> {
-        Machine { rt: self.rt, root }
-    }
-
-    fn clock(&self) -> Option<i64> {
-        let now = SystemTime::now(self.rt).ok()?;
-        let since = now.duration_since(UNIX_EPOCH).ok()?;
-        i64::try_from(since.as_secs()).ok()
-    }
-}
-
-impl<'a, R: Files + Env + AllocGlobal + Clone + Drop> Machine<'a, R> {
-    /// Returns the path on the system that stands for `path`. An absolute path lies below the root folder, and the
-    /// empty path is that of the root folder itself. A relative path stays as it is.
-    fn path_of(&self, alloc: Global, path: &str) -> Result<String, AllocError> {
-        let root = self.root.as_str();
-        match path {
-            "" if root.is_empty() => String::from_str(alloc, "/"),
-            _ if path.is_empty() || path.starts_with('/') => format!(in alloc; "{root}{path}"),
-            _ => String::from_str(alloc, path),
+impl<'a, R: AllocGlobal> HostSystem<'a, R> {
+    /// Returns the whole system that this runtime reaches.
+    pub fn new(rt: &'a R) -> HostSystem<'a, R> {
+        HostSystem {
+            rt,
+            root: String::new(rt.alloc()),
         }
     }
 }
 
-impl<'a, R: Files + Env + AllocGlobal + Clone + Drop> Raw for Machine<'a, R> {
+impl<'a, R: Files + Env + Clock + AllocGlobal + Clone + Drop> System for HostSystem<'a, R> {
     fn look(&self, alloc: Global, path: &str) -> Result<Entry, TreeFault> {
         let whole = self.path_of(alloc, path)?;
         let metadata = match fs::symlink_metadata(self.rt, whole.as_str()) {
             Ok(metadata) => metadata,
             Err(error) if is_missing(&error) => return Ok(assumed_at(path)),
-            Err(error) => return Err(tree_fault_of(&error)),
+            Err(error) => return Err(tree_fault_of(&error, Unreadable::Failed)),
         };
         if metadata.is_symlink() {
             return look_at_link(self.rt, alloc, whole.as_str());
@@ -76,7 +59,7 @@ impl<'a, R: Files + Env + AllocGlobal + Clone + Drop> Raw for Machine<'a, R> {
         let entries = match fs::read_dir(self.rt, path.as_str()) {
             Ok(entries) => entries,
             Err(error) if is_missing(&error) => return Ok(found),
-            Err(error) => return Err(tree_fault_of(&error)),
+            Err(error) => return Err(tree_fault_of(&error, Unreadable::Failed)),
         };
         for entry in entries {
             push_entry(alloc, &mut found, entry)?;
@@ -85,15 +68,18 @@ impl<'a, R: Files + Env + AllocGlobal + Clone + Drop> Raw for Machine<'a, R> {
     }
 
     fn read(&self, alloc: Global, file: &str) -> Result<Vec<u8>, TreeFault> {
+        if file.is_empty() {
+            return Err(TreeFault::Unreadable(Unreadable::Unopened));
+        }
         let path = self.path_of(alloc, file)?;
         let file = match fs::open(self.rt, path.as_str()) {
             Ok(file) => file,
-            Err(error) => return Err(tree_fault_of(&error)),
+            Err(error) => return Err(tree_fault_of(&error, Unreadable::Unopened)),
         };
         let mut bytes = Vec::new(alloc);
         match file.take(FILE_BYTES as u64).read_to_end(&mut bytes) {
             Ok(_) => Ok(bytes),
-            Err(error) => Err(tree_fault_of(&error)),
+            Err(error) => Err(tree_fault_of(&error, Unreadable::Failed)),
         }
     }
 
@@ -103,6 +89,29 @@ impl<'a, R: Files + Env + AllocGlobal + Clone + Drop> Raw for Machine<'a, R> {
             Err(env::VarError::NotPresent) => Ok(None),
             Err(env::VarError::NotUnicode) => Err(TreeFault::Unreadable(Unreadable::NotUtf8)),
             Err(env::VarError::OutOfMemory) => Err(TreeFault::NoMemory),
+        }
+    }
+
+    fn clock(&self) -> Option<i64> {
+        let now = SystemTime::now(self.rt).ok()?;
+        let since = now.duration_since(UNIX_EPOCH).ok()?;
+        i64::try_from(since.as_secs()).ok()
+    }
+
+    fn below(self, root: String) -> HostSystem<'a, R> {
+        HostSystem { rt: self.rt, root }
+    }
+}
+
+impl<'a, R> HostSystem<'a, R> {
+    /// Returns the path on the system that stands for `path`. An absolute path lies below the root folder, and the
+    /// empty path is that of the root folder itself. A relative path stays as it is.
+    fn path_of(&self, alloc: Global, path: &str) -> Result<String, AllocError> {
+        let root = self.root.as_str();
+        match path {
+            "" if root.is_empty() => String::from_str(alloc, "/"),
+            _ if path.is_empty() || path.starts_with('/') => format!(in alloc; "{root}{path}"),
+            _ => String::from_str(alloc, path),
         }
     }
 }
@@ -120,7 +129,7 @@ fn push_entry<R: Files + Drop>(
         Err(error) if error.kind() == ErrorKind::InvalidFilename => {
             found.unnamed = found.unnamed.saturating_add(1);
         }
-        Err(error) => return Err(tree_fault_of(&error)),
+        Err(error) => return Err(tree_fault_of(&error, Unreadable::Failed)),
     }
     Ok(())
 }
@@ -146,7 +155,7 @@ fn look_at_link<R: Files + AllocGlobal>(
             Some(target) => Ok(Entry::Link(String::from_str(alloc, target)?)),
             None => Err(TreeFault::Unreadable(Unreadable::NotUtf8)),
         },
-        Err(error) => Err(tree_fault_of(&error)),
+        Err(error) => Err(tree_fault_of(&error, Unreadable::Failed)),
     }
 }
 
@@ -160,9 +169,10 @@ fn is_missing(error: &Error) -> bool {
     matches!(error.kind(), ErrorKind::NotFound | ErrorKind::NotADirectory)
 }
 
-fn tree_fault_of(error: &Error) -> TreeFault {
+/// Converts an error of a system call. Unless memory ran out, `why` is the reason.
+fn tree_fault_of(error: &Error, why: Unreadable) -> TreeFault {
     match error.kind() {
         ErrorKind::OutOfMemory => TreeFault::NoMemory,
-        _ => TreeFault::Unreadable(Unreadable::Failed),
+        _ => TreeFault::Unreadable(why),
     }
 }
