@@ -108,16 +108,16 @@ abbrev pub HasRead : List Text → Result Ask CommandFault → Type 0
 HasRead arguments answer = (faults_in arguments ≡ []) × (ask_in arguments ≡ answer)
 
 -- `clap` rejects the arguments, and one of the errors that it may report for them is of a kind that passes `is_kind`
-abbrev pub HasRefused : List Text → (ErrorKind → Bool) → Type 0
-HasRefused arguments is_kind = (takes_arguments arguments ≡ false) × (list_any is_kind (faults_in arguments) ≡ true)
+abbrev pub AreRejected : List Text → (ErrorKind → Bool) → Type 0
+AreRejected arguments is_kind = (takes_arguments arguments ≡ false) × (list_any is_kind (faults_in arguments) ≡ true)
 
 -- `fault` is right for the arguments. If `clap` rejects them, `help` is right if one possible reason is a request for
 -- help or the version, and `usage` is right if one possible reason is anything else. If `clap` parses them, the error
 -- for the first invalid value is right, or `nothing_asked`. The error for a failed allocation is right for all
 -- arguments.
 abbrev pub IsFaultOf : List Text → CommandFault → Type 0
-IsFaultOf arguments (usage text) = HasRefused arguments (λ kind. not (is_of_help kind)) ⊎ HasRead arguments (Err (usage text))
-IsFaultOf arguments (help text) = HasRefused arguments is_of_help
+IsFaultOf arguments (usage text) = AreRejected arguments (λ kind. not (is_of_help kind)) ⊎ HasRead arguments (Err (usage text))
+IsFaultOf arguments (help text) = AreRejected arguments is_of_help
 IsFaultOf arguments (bad_value message) = HasRead arguments (Err (bad_value message))
 IsFaultOf arguments no_memory = ⊤
 
