@@ -7,7 +7,7 @@ ghost use Rattle.cal_machine.specs.rules.Seen.{ClockShows};
 ghost use Rattle.cal_answers.specs.rules.Run.{IsRunOf, IsToPrint, Prints, status_unless};
 
 use crate::answer::Answer;
-use crate::whole::answer_on;
+use crate::whole::read_and_answer;
 use cal_bytes::{Sink, put_all, put_pieces};
 use cal_machine::System;
 use cal_options::ArgumentFault;
@@ -26,12 +26,12 @@ const USAGE: u8 = 2;
 /// silently (systemd.service(5), ExecCondition=).
 const NOT_KNOWN: u8 = 255;
 
-/// Answers the question that the arguments ask, or gives the help that they ask for, and writes the answer to `out` and
-/// error lines to `err`. Returns the exit status.
+/// Answers the question that the arguments ask, or prints help. Writes the answer to `out` and error lines to `err`,
+/// and returns the exit status.
 ///
-/// Each question about the system is asked at most once. If `out` fails, for example because it is a pipe that nobody
-/// reads any more, a prefix of the answer was written, the last line on `err` says so, and the status is 1. If `err`
-/// fails, only the status is left to report anything. If there is any error line, the status of `due` is [`NOT_KNOWN`].
+/// Each question about the system is asked at most once. If `out` fails, for example because nobody reads the pipe any
+/// more, it has a prefix of the answer, the last line on `err` reports the failure, and the status is 1. If `err`
+/// fails, only the status can report errors. If there is any error line, the status of `due` is [`NOT_KNOWN`].
 pub fn answer_arguments<S: System + Drop, T: AsStr, O: Sink, E: Sink>(
     alloc: Global,
     system: S,
@@ -87,8 +87,7 @@ fn answer_for<S: System + Drop, T: AsStr>(
     }
 }
 
-/// Answers the question of a command about the system or, if the command names a root, about the part of the system below
-/// this root.
+/// Answers the question of a command about the system or, with `--root`, about the part of the system below this root.
 fn answer_on_system<S: System + Drop>(
     alloc: Global,
     system: S,
@@ -100,7 +99,7 @@ fn answer_on_system<S: System + Drop>(
 {
     let clock = system.clock();
     let root = String::from_str(alloc, command.options.root.as_str())?;
-    answer_on(alloc, system.below(root), command, clock, style)
+    read_and_answer(alloc, system.below(root), command, clock, style)
 }
 
 /// Writes `answer` to `out` and then `lines` to `err`, and returns the exit status, which is usually `status`. If `out`

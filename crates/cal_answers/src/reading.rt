@@ -28,7 +28,7 @@ use std::alloc::{AllocError, Global};
 /// files that the question names. Each question about the machine is asked of `system` at most once.
 ///
 /// `clock` is the time that the machine's clock shows, in seconds of Unix time, or `None` if the clock can't be read.
-/// If the command names a present, `clock` isn't used. Fails only if allocation fails.
+/// If the command has `--now`, `clock` isn't used. Fails only if allocation fails.
 pub(crate) fn read_question<'q, S: System + Drop>(
     alloc: Global,
     system: S,
@@ -91,8 +91,8 @@ fn present(given: Option<i64>, clock: Option<i64>) -> Option<Instant>
 
 /// Checks that `root`, the value of `--root`, leads to a folder. Checks nothing if `root` is empty.
 ///
-/// All paths of `tree` are below `root`, so the folder to check has the path `/`. (If `root` is a link, this slash
-/// makes the system follow it.) The empty path would not do: it counts as a folder without a check.
+/// All paths of `tree` are below `root`, so the path to check is `/`. If `root` is a link, this slash makes the system
+/// follow it; with the empty path, `look` would return the link.
 fn check_root<T: Tree>(alloc: Global, tree: &mut T, root: &str) -> Result<(), ReadFault>
     ensures fault { IfErr result (λ fault. fault ≢ ReadFault.NoMemory → (machine : Machine) → T.shows tree.new machine → HasNoRoot machine root.now) }
     ensures grows { (machine : Machine) → T.shows tree.new machine → T.shows tree.old machine }
@@ -142,8 +142,8 @@ fn is_next(question: &Question) -> bool
     matches!(question, Question::Next { .. })
 }
 
-/// Finds the zone in which the answer shows times. The caller has already found the zone of `--zone`, so if the option
-/// is unclear, it is `--in`.
+/// Finds the zone in which the answer shows times. The caller has already found the zone of `--zone`, so if an option
+/// names no zone, it is `--in`.
 fn find_shown<T: Tree>(
     alloc: Global,
     tree: &mut T,

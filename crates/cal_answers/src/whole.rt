@@ -1,4 +1,4 @@
-//! A whole run: from a question to the answer, on one machine.
+//! From a question to the answer, on one machine.
 
 ghost use Rattle.std.specs.Prelude.{◌≤◌, IfOk};
 ghost use Rattle.cal_answers.specs.rules.Output.{IsAnswerOn};
@@ -11,12 +11,12 @@ use cal_timers_command::Command;
 use cal_timers_report::Style;
 use std::alloc::{AllocError, Global};
 
-/// Reads all that the answer to the question of a command depends on, and answers it. Each question about the machine is asked of
-/// `system` at most once.
+/// Reads everything that the answer to a command's question depends on, and returns the answer. Asks `system` each
+/// question about the machine at most once.
 ///
 /// `clock` is the time that the machine's clock shows, in seconds of Unix time, or `None` if the clock can't be read.
 /// If the command has `--now`, `clock` isn't used. Fails only if allocation fails.
-pub(crate) fn answer_on<S: System + Drop>(
+pub(crate) fn read_and_answer<S: System + Drop>(
     alloc: Global,
     system: S,
     command: &Command,

@@ -21,18 +21,19 @@ pub enum Item<'a> {
     Hidden,
 }
 
-/// A system with these items, each at its path, and with the folders above them.
+/// A system with these items, each at its path, and with the folders above them. `read` doesn't follow links, `HOME` is
+/// the only variable, and `below` ignores its folder.
 #[derive(Clone, Copy, Debug)]
-pub struct Memory<'a> {
+pub struct MemorySystem<'a> {
     pub items: &'a [(&'a str, Item<'a>)],
     /// The time that the clock shows, in seconds of Unix time.
     pub time: Option<i64>,
 }
 
-impl<'a> Memory<'a> {
+impl<'a> MemorySystem<'a> {
     /// Returns a system with these items, whose clock always shows [`NEW_YEAR`].
-    pub fn new(items: &'a [(&'a str, Item<'a>)]) -> Memory<'a> {
-        Memory {
+    pub fn new(items: &'a [(&'a str, Item<'a>)]) -> MemorySystem<'a> {
+        MemorySystem {
             items,
             time: Some(NEW_YEAR),
         }
@@ -73,7 +74,7 @@ fn name_below<'p>(folder: &str, path: &'p str) -> Option<&'p str> {
     names.split('/').next()
 }
 
-impl<'a> System for Memory<'a> {
+impl<'a> System for MemorySystem<'a> {
     fn look(&self, alloc: Global, path: &str) -> Result<Entry, TreeFault> {
         match self.at(path) {
             None if self.is_folder(path) => Ok(Entry::Folder),
@@ -116,7 +117,7 @@ impl<'a> System for Memory<'a> {
         self.time
     }
 
-    fn below(self, _root: String) -> Memory<'a> {
+    fn below(self, _root: String) -> MemorySystem<'a> {
         self
     }
 }

@@ -14,7 +14,7 @@ use std::{env, fs, io};
 pub struct HostSystem<'a, R> {
     /// The runtime, through which everything is read.
     rt: &'a R,
-    /// The root folder, to which absolute paths are relative. Empty for the system's own root.
+    /// The folder in which absolute paths start. Empty for the system's own root.
     root: String,
 }
 
@@ -151,7 +151,7 @@ fn look_at_link<R: Files + AllocGlobal>(
 ) -> Result<Entry, TreeFault> {
     match fs::read_link(rt, path) {
         Ok(link) => match link.as_path().to_str() {
-            Some(target) if is_open_file(target) => Ok(Entry::File),
+            Some(target) if names_open_pipe(target) => Ok(Entry::File),
             Some(target) => Ok(Entry::Link(String::from_str(alloc, target)?)),
             None => Err(TreeFault::Unreadable(Unreadable::NotUtf8)),
         },
@@ -159,9 +159,9 @@ fn look_at_link<R: Files + AllocGlobal>(
     }
 }
 
-/// Returns whether the target of a link in `/proc/self/fd` is not a path but stands for an open pipe or socket, as in
+/// Returns whether a link's target looks like those in `/proc/self/fd` that stand for an open pipe or socket, as in
 /// `pipe:[42]` (proc(5)). Opening such a link opens the pipe itself, so `lint /dev/stdin` can read a pipe.
-fn is_open_file(target: &str) -> bool {
+fn names_open_pipe(target: &str) -> bool {
     !target.contains('/') && target.contains(":[") && target.ends_with(']')
 }
 

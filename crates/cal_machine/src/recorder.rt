@@ -28,7 +28,7 @@ pub struct Recorder<S: System> {
 }
 
 impl<S: System> Recorder<S> {
-    /// Creates a recorder without recorded answers, with which every machine agrees.
+    /// Creates a recorder that has no answers yet, so every machine agrees with it.
     pub fn new(alloc: Global, system: S) -> Recorder<S>
         ensures asks { result.system ≡ system }
         ensures agrees { (machine : Machine) → ⟦<Recorder<S> as Tree>⟧.shows result machine }

@@ -8,16 +8,17 @@ use crate::tree::{Entry, Names, TreeFault};
 use std::alloc::Global;
 
 /// The system that a program runs on: its folders, files and links, its environment variables and its clock. Both
-/// programs reach them only through this trait. Their arguments and outputs are passed separately.
+/// programs reach these only through this trait, except that the `main` of `calendar-timers` reads the variables for
+/// the style of its output. Arguments and outputs are passed separately.
 ///
 /// Nothing is promised about what the calls return: the system may change, so the same call may return something else
 /// each time.
 ///
-/// `gives` is true of every answer that a call returns; running out of memory isn't an answer. This is all that code
-/// generic over `System` knows of `gives`. So if such code proves `gives` of an answer, a call has returned this answer.
+/// `gives` is true of every answer that a call returns; running out of memory isn't an answer. Code that is generic
+/// over `System` knows nothing else about `gives`, so it can prove `gives` only of answers that calls returned.
 ///
-/// For `look` and `names`, paths have the form that [`crate::Tree`] explains. `read` accepts any path, and follows its
-/// links as the system does.
+/// For `look` and `names`, a path must have the form that [`crate::Tree`] describes. `read` accepts any path and
+/// follows the links in it.
 pub trait System {
     /// Whether a call may give this answer to this question.
     ghost gives: { Said → Bool } = { λ _. true };
@@ -44,6 +45,6 @@ pub trait System {
     fn clock(&self) -> Option<i64>
         ensures { IsTrue (gives (ClockShows result)) };
 
-    /// Returns the part of the system below this folder, or the whole system if the path is empty.
+    /// Returns the part of the system below the folder `root`, or the whole system if `root` is empty.
     fn below(self, root: String) -> Self;
 }

@@ -6,22 +6,22 @@ ghost use Rattle.cal_machine.specs.declared.tree.TreeFault.TheVariants.{NoMemory
 
 use std::alloc::{AllocError, AllocFailed, Global};
 
-/// The maximum number of bytes that are read of a file. This is one more than the size limit of unit files and zone
+/// The maximum number of bytes that are read from a file. This is one more than the size limit of unit files and zone
 /// files, so the number of bytes that were read shows whether a file is too large.
 pub const FILE_BYTES: usize = 1_048_577;
 
-/// Why something can't be read. This is a fact about the machine: trying again gives the same error.
+/// Why something can't be read. A [`Tree`] treats this as a fact about the machine: asking again gives the same error.
 #[derive(Clone, Copy, PartialEq, Eq, Debug)]
 pub enum Unreadable {
     /// A file can't be opened, for example because it doesn't exist or opening it isn't permitted.
     Unopened,
-    /// Reading fails, for example because it isn't permitted.
+    /// Anything else fails: an open file can't be read, a folder can't be listed, or a path can't be followed.
     Failed,
     /// The target of a link, or the value of a variable, is not UTF-8.
     NotUtf8,
 }
 
-/// Why a method of a [`Tree`] failed.
+/// Why a method of a [`Tree`] or a [`crate::System`] failed.
 #[derive(Clone, Copy, PartialEq, Eq, Debug)]
 pub enum TreeFault {
     /// The folder, path, file or variable can't be read, for this reason.
@@ -55,7 +55,8 @@ pub enum Entry {
     Empty,
     /// Any other file. [`Tree::read`] returns its bytes.
     File,
-    /// Anything that isn't a file, a folder or a link, such as a device, a FIFO or a socket. It is never opened.
+    /// Anything that isn't a file, a folder or a link, such as a device, a FIFO or a socket. [`crate::read_at`] doesn't
+    /// open it.
     Device,
     /// A folder. A link to a folder is a [`Entry::Link`] instead.
     Folder,
@@ -75,9 +76,9 @@ pub struct Names {
 /// Access to the folders, files and links of a machine, and to its environment variables.
 ///
 /// Paths that are passed to the methods must lead through no links: every part of a path except the last must be a
-/// folder, and not a link to one. A path is absolute and plain, such as `/usr/lib`, and the root is the empty path; or
-/// it starts with `./`, and is relative to the folder in which the program runs. [`crate::find_place`] finds such
-/// paths.
+/// folder, and not a link to one. A path is absolute, without `.`, `..` or a slash at its end, such as `/usr/lib`, and
+/// the root is the empty path; or it starts with `./`, and is relative to the folder in which the program runs.
+/// [`crate::find_place`] finds such paths.
 ///
 /// The machine may change while it is read, but what the methods return never contradicts itself: after any calls there
 /// is a machine, fixed in time, that agrees with everything that they have returned (`some_machine`). `shows` is true

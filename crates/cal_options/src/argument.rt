@@ -7,8 +7,8 @@ ghost use Rattle.cal_options.specs.rules.Arguments.{is_long_option, is_short_opt
 /// An option or a positional argument, and what the help says about it.
 #[derive(Clone, Copy)]
 pub struct Argument {
-    /// The name of an option, without the `--` before it. Users don't see the name of a positional argument, which
-    /// serves to look up its values.
+    /// The name of an option, without the `--` before it. For a positional argument, the name is only used to look up
+    /// its values, and users don't see it.
     pub name: &'static str,
     pub form: ArgumentForm,
     /// What the help calls the value, or an empty text if the option has no value.

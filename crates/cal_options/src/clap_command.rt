@@ -87,11 +87,11 @@ fn build_argument<'a>(alloc: Global, argument: Argument) -> Arg<'a>
         ArgumentForm::ShortValue(letter) => value_arg(arg, argument).short(char::from(letter)),
         ArgumentForm::Flag => flag_arg(arg, argument),
         ArgumentForm::ShortFlag(letter) => flag_arg(arg, argument).short(char::from(letter)),
-        ArgumentForm::One => positional_arg(arg, argument, ArgAction::Set).required(true),
-        ArgumentForm::AtMostOne => positional_arg(arg, argument, ArgAction::Set),
-        ArgumentForm::Any => positional_arg(arg, argument, ArgAction::Append),
+        ArgumentForm::One => arg_with_value(arg, argument, ArgAction::Set).required(true),
+        ArgumentForm::AtMostOne => arg_with_value(arg, argument, ArgAction::Set),
+        ArgumentForm::Any => arg_with_value(arg, argument, ArgAction::Append),
         ArgumentForm::AtLeastOne => {
-            positional_arg(arg, argument, ArgAction::Append).required(true)
+            arg_with_value(arg, argument, ArgAction::Append).required(true)
         }
     }
 }
@@ -100,7 +100,7 @@ fn value_arg<'a>(arg: Arg<'a>, argument: Argument) -> Arg<'a>
     ensures rule { rule_of result ≡ record (rule_of arg.entry) { long = Some argument.name.now; action = Some Set; value_names = 1 } }
     ensures not_global { result.global ≡ arg.entry.global }
 {
-    positional_arg(arg, argument, ArgAction::Set).long(argument.name)
+    arg_with_value(arg, argument, ArgAction::Set).long(argument.name)
 }
 
 fn flag_arg<'a>(arg: Arg<'a>, argument: Argument) -> Arg<'a>
@@ -110,7 +110,7 @@ fn flag_arg<'a>(arg: Arg<'a>, argument: Argument) -> Arg<'a>
     arg.long(argument.name).action(ArgAction::SetTrue)
 }
 
-fn positional_arg<'a>(arg: Arg<'a>, argument: Argument, action: ArgAction) -> Arg<'a>
+fn arg_with_value<'a>(arg: Arg<'a>, argument: Argument, action: ArgAction) -> Arg<'a>
     ensures rule { rule_of result ≡ record (rule_of arg.entry) { action = Some action; value_names = 1 } }
     ensures not_global { result.global ≡ arg.entry.global }
 {

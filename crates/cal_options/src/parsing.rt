@@ -13,7 +13,8 @@ use std::convert::AsStr;
 /// Passes the arguments to `clap`, and returns what it finds in them. Fails with `Help` if they ask for help or the
 /// version, with `Usage` if `clap` can't parse them, and with `NoMemory` if allocation fails.
 ///
-/// The contract of `clap` lists the possible errors only for commands in which no argument has a rule about another.
+/// Requires that no argument of the command depends on or excludes another: the contract of `clap` lists the possible
+/// errors only for such commands.
 pub fn parse<'a, S: AsStr>(
     alloc: Global,
     command: Command<'a>,

@@ -36,7 +36,7 @@ pub fn number_in(option: NumberOption, text: &str) -> Option<u64>
     number_between(text, option.least, option.most)
 }
 
-/// Parses an instant: `@` and a number from 0 to [`Instant::LAST`], in digits only.
+/// Parses an instant: `@` and a number from 0 to [`Instant::LAST`], in digits only. Returns `None` for any other text.
 pub fn present_in(text: &str) -> Option<Instant>
     ensures { option_map (λ instant. instant.secs) result ≡ present_in text.now }
 {
@@ -45,7 +45,7 @@ pub fn present_in(text: &str) -> Option<Instant>
 }
 
 /// Parses a number from `least` to `most`, and returns `None` for any other text. Only digits are accepted, so a
-/// leading `+`, which `parse` would accept, is rejected first.
+/// leading `+`, which `str::parse` would accept, is rejected first.
 fn number_between(text: &str, least: u64, most: u64) -> Option<u64>
     ensures { result ≡ number_between least most text.now }
 {

@@ -5,7 +5,7 @@ mod answers;
 mod failures;
 
 use cal_bytes::Port;
-use cal_library_tests::memory::Memory;
+use cal_library_tests::memory::MemorySystem;
 use cal_library_tests::shared::ensure;
 use cal_work::work;
 use std::alloc::Global;
@@ -29,12 +29,16 @@ impl Done {
 }
 
 /// Runs the program with the arguments in `line`, which are separated by `|`.
-fn perform(alloc: Global, system: Memory<'_>, line: &str) -> Result<Done, Fail> {
+fn perform(alloc: Global, system: MemorySystem<'_>, line: &str) -> Result<Done, Fail> {
     let arguments: Vec<&str> = line.split('|').collect(alloc)?;
     perform_arguments(alloc, system, arguments.as_slice())
 }
 
-fn perform_arguments(alloc: Global, system: Memory<'_>, arguments: &[&str]) -> Result<Done, Fail> {
+fn perform_arguments(
+    alloc: Global,
+    system: MemorySystem<'_>,
+    arguments: &[&str],
+) -> Result<Done, Fail> {
     let mut out = Port::new(BufWriter::new(alloc, Vec::new(alloc))?);
     let mut err = Port::new(Vec::new(alloc));
     let ended = work(alloc, &system, arguments, &mut out, &mut err);
@@ -45,13 +49,18 @@ fn perform_arguments(alloc: Global, system: Memory<'_>, arguments: &[&str]) -> R
 type Row<'a> = (&'a str, &'a str, &'a str, u8);
 
 /// Runs the program with the row's arguments, and expects the row's outputs and status.
-fn check(alloc: Global, system: Memory<'_>, row: Row<'_>) -> Result<(), Fail> {
+fn check(alloc: Global, system: MemorySystem<'_>, row: Row<'_>) -> Result<(), Fail> {
     let done = perform(alloc, system, row.0)?;
     expect_done(&done, row)
 }
 
 /// Expects the arguments on each line to be rejected with this status, and with the error line after the arrow.
-fn check_refused(alloc: Global, system: Memory<'_>, lines: &str, status: u8) -> Result<(), Fail> {
+fn check_refused(
+    alloc: Global,
+    system: MemorySystem<'_>,
+    lines: &str,
+    status: u8,
+) -> Result<(), Fail> {
     for line in lines.lines() {
         let (arguments, told) = line.split_once(" -> ").ok_or("no arrow")?;
         let err = format!(in alloc; "{told}\n")?;

@@ -20,9 +20,11 @@ pub enum KeyKind {
     /// When the timer doesn't elapse even if an expression does: this project's key `X-ExceptOnCalendar=`. The value is
     /// a calendar expression.
     Exception,
-    /// Whether a missed start is made up for, and whether a random delay is always the same. The value is a boolean.
+    /// `Persistent=`, whether a missed start is made up for, or `FixedRandomDelay=`, whether a random delay is always
+    /// the same. The value is a boolean.
     TimingBoolean,
-    /// Whether the timer wakes the system, and whether it stays loaded after its last elapse. The value is a boolean.
+    /// `WakeSystem=`, whether the timer wakes the system, or `RemainAfterElapse=`, whether the timer stays loaded after
+    /// its last elapse. The value is a boolean.
     OtherBoolean,
     /// The maximum random delay of a start. The value is a time span.
     Delay,

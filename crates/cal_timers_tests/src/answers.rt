@@ -3,7 +3,7 @@
 
 use cal_answers::answer_arguments;
 use cal_bytes::{Faulty, Port, Then};
-use cal_library_tests::memory::{Item, Memory};
+use cal_library_tests::memory::{Item, MemorySystem};
 use cal_library_tests::shared::{ensure, zone_file};
 use cal_timers_report::Style;
 use std::alloc::Global;
@@ -23,7 +23,7 @@ fn answer(alloc: Global, items: &[(&str, Item<'_>)], line: &str) -> Result<Vec<u
     let mut err = Port::new(Vec::new(alloc));
     answer_arguments(
         alloc,
-        Memory::new(items),
+        MemorySystem::new(items),
         arguments.as_slice(),
         STYLE,
         &mut out,
@@ -475,7 +475,7 @@ fn expect_cut(alloc: Global, cut: Cut) -> Result<(), Fail> {
     let mut lines = Port::new(Vec::new(alloc));
     let ended = answer_arguments(
         alloc,
-        Memory::new(&[]),
+        MemorySystem::new(&[]),
         &["next", "daily", "--utc", "-n1"],
         STYLE,
         &mut written,

@@ -14,7 +14,7 @@ use Rattle.cal_work.specs.rules.Stop.{Stop}
 use Rattle.cal_machine.specs.rules.Machine.{Machine}
 use Rattle.cal_machine.specs.rules.Seen.{Said, ClockShows}
 use Rattle.cal_work.specs.rules.FileAnswer.{FileAnswer, Gave}
-use Rattle.cal_work.specs.rules.WorkLaw.{IsFixed, IsOr, fixed_file, fixed_outcome, fixed_world, fixed_zones}
+use Rattle.cal_work.specs.rules.WorkLaw.{IsFixed, IsOrMemoryStop, fixed_file, fixed_outcome, fixed_world, fixed_zones}
 use Rattle.cal_work.specs.rules.Works.{SeesZones, SeesFor, Fits, FitsArguments}
 use Rattle.cal_zone.specs.declared.zone_files.LoadFault.{LoadFault}
 use Rattle.cal_command.proofs.CommandLineLemmas.{taken_arguments}
@@ -26,9 +26,9 @@ answer_fixed : (gives : Said → Bool) (machine : Machine) (clock : Option ℤ) 
 answer_fixed gives machine clock path None all given = inr refl
 answer_fixed gives machine clock path (Some found) all given = inl (ap (λ f. Some f) (all.files path found given))
 
--- `IsOr` says that the first result is equal to the second, or is the stop for running out of memory. It holds for two
--- sequences of steps if it holds for their first steps and for the steps after them.
-and_then_or : {A B : Type 0} (next other : A → Result B Stop) (r s : Result A Stop) → IsOr r s → ((x : A) → r ≡ Ok x → IsOr (next x) (other x)) → IsOr (and_then next r) (and_then other s)
+-- `IsOrMemoryStop` says that the first result is equal to the second, or is the stop for running out of memory. It
+-- holds for two sequences of steps if it holds for their first steps and for the steps after them.
+and_then_or : {A B : Type 0} (next other : A → Result B Stop) (r s : Result A Stop) → IsOrMemoryStop r s → ((x : A) → r ≡ Ok x → IsOrMemoryStop (next x) (other x)) → IsOrMemoryStop (and_then next r) (and_then other s)
 and_then_or next other (Ok x) s (inl e) h = rw (sym e) (h x refl)
 and_then_or next other (Err stop) s (inl e) h = rw (sym e) (inl refl)
 and_then_or next other r s (inr e) h = rw e (inr refl)
@@ -37,19 +37,19 @@ and_then_or next other r s (inr e) h = rw e (inr refl)
 
 module _ (gives : Said → Bool) (machine : Machine) (clock : Option ℤ) (all : IsFixed gives machine clock) where
   after_load : (items : List ZoneItem) (found : List ZoneFound) (name : List ℕ)
-      → ((more : ZoneMap) → SeesZones gives more items found → IsOr (table_by more items found) (table_by more items (fixed_zones machine items found)))
+      → ((more : ZoneMap) → SeesZones gives more items found → IsOrMemoryStop (table_by more items found) (table_by more items (fixed_zones machine items found)))
       → (r : Result ZoneMap LoadFault) → IfOk r (λ more. SeesZones gives more items found)
-      → IsOr (and_then (λ more. table_by more items found) (or_load_stop name r)) (and_then (λ more. table_by more items (fixed_zones machine items found)) (or_load_stop name r))
+      → IsOrMemoryStop (and_then (λ more. table_by more items found) (or_load_stop name r)) (and_then (λ more. table_by more items (fixed_zones machine items found)) (or_load_stop name r))
   after_load items found name later (Ok more) h = later more h
   after_load items found name later (Err fault) h = inl refl
 
   -- if memory ran out while a zone file was read, the outcome is the stop for running out of memory
   zone_unread : {A : Type 0} (next : ZoneMap → Result A Stop) (other : Result A Stop) (table : ZoneMap) (item : ZoneItem) (f : ZoneFound) → f.answer ≡ None
-      → IsOr (and_then next (or_load_stop item.name (loaded table item f))) other
+      → IsOrMemoryStop (and_then next (or_load_stop item.name (loaded table item f))) other
   unfolding loaded
   zone_unread next other table item f e = rw e (inr refl)
 
-  zones_fixed : (table : ZoneMap) (items : List ZoneItem) (found : List ZoneFound) → SeesZones gives table items found → IsOr (table_by table items found) (table_by table items (fixed_zones machine items found))
+  zones_fixed : (table : ZoneMap) (items : List ZoneItem) (found : List ZoneFound) → SeesZones gives table items found → IsOrMemoryStop (table_by table items found) (table_by table items (fixed_zones machine items found))
   unfolding table_by fixed_zones
   zones_fixed table [] found h = inl refl
   zones_fixed table (item ∷ items) [] h = absurd h
@@ -66,7 +66,7 @@ module _ (gives : Said → Bool) (machine : Machine) (clock : Option ℤ) (all :
   present_fixed (Some now) shown h = refl
   present_fixed None shown h = rw (all.time shown h) refl
 
-  run_fixed : (asked : Request) (answer : FileAnswer) (kind : RequestKind) → SeesFor kind gives answer → IsOr (run_on asked answer kind) (run_on asked (fixed_file machine kind) kind)
+  run_fixed : (asked : Request) (answer : FileAnswer) (kind : RequestKind) → SeesFor kind gives answer → IsOrMemoryStop (run_on asked answer kind) (run_on asked (fixed_file machine kind) kind)
   run_fixed asked answer (for_texts verb texts) h = inl refl
   run_fixed asked answer (for_file path) h =
       elim (answer_fixed gives machine clock path answer all h) [
@@ -76,7 +76,7 @@ module _ (gives : Said → Bool) (machine : Machine) (clock : Option ℤ) (all :
 
   -- ## All steps together
 
-  ask_fixed : (ask : Ask) (world : World) → Fits gives ask world → IsOr (outcome_of ask world) (outcome (fixed_world machine clock ask world))
+  ask_fixed : (ask : Ask) (world : World) → Fits gives ask world → IsOrMemoryStop (outcome_of ask world) (outcome (fixed_world machine clock ask world))
   unfolding outcome outcome_of fixed_world run_by
   ask_fixed ask world fits =
       and_then_or _ _ _ _ (zones_fixed empty ask.zones world.zones fits.zones) (λ table is_table.
@@ -86,12 +86,12 @@ module _ (gives : Said → Bool) (machine : Machine) (clock : Option ℤ) (all :
       and_then_or _ _ (present_by ask.now world.clock) (present_by ask.now clock) (inl (present_fixed ask.now world.clock later.1)) (λ now is_now.
       run_fixed (asked_at ask table local now) world.file (kind_by ask.verb ask.texts) (rw is_now at later.2))))
 
-  parsed_fixed : (world : World) (parsed : Result Ask CommandFault) → world.parsed ≡ parsed → IfOk parsed (λ ask. Fits gives ask world) → IsOr (outcome world) (fixed_outcome machine clock parsed world)
+  parsed_fixed : (world : World) (parsed : Result Ask CommandFault) → world.parsed ≡ parsed → IfOk parsed (λ ask. Fits gives ask world) → IsOrMemoryStop (outcome world) (fixed_outcome machine clock parsed world)
   unfolding outcome outcome_of fixed_world
   parsed_fixed world (Ok ask) is fits = rw is (ask_fixed ask world fits)
   parsed_fixed world (Err fault) is fits = rw is (inl refl)
 
-  pub fixed_decides : (arguments : List (List ℕ)) (world : World) → takes_arguments arguments ≡ true → FitsArguments gives arguments world → IsOr (outcome world) (fixed_outcome machine clock (ask_in arguments) world)
+  pub fixed_decides : (arguments : List (List ℕ)) (world : World) → takes_arguments arguments ≡ true → FitsArguments gives arguments world → IsOrMemoryStop (outcome world) (fixed_outcome machine clock (ask_in arguments) world)
   unfolding outcome
   fixed_decides arguments world takes fits =
       elim (taken_arguments arguments world.parsed fits.parsed takes) [

@@ -77,13 +77,13 @@ stops_other {A = A} stop shown s = record { before_out = s.before_out; before_er
 
 -- ## What the system answered about a file
 
--- if `read` was read to its end from bytes that are known, these are the bytes, and they are within the limit
+-- if reading the known bytes `bytes` to the end returned `read`, then `read` is `bytes`, which is within the limit
 all_read : (bytes read : List ℕ) (new : Option (List ℕ)) (limit : ℕ) → GivesAll (Some bytes) new limit read → (read ≡ bytes) × (length bytes ≤ limit)
 all_read bytes read new limit h =
     let same : read ≡ bytes = Consumes-whole (Some bytes) new read (λ all. read ≡ all) h.taken h.at_end refl in
     (same, subst (λ all. length all ≤ limit) same h.fits)
 
--- if more than `limit` bytes were read from bytes that are known, there are more than `limit` of them
+-- if more than `limit` bytes were read from the known bytes `bytes`, then `bytes` is longer than `limit`
 more_read : (bytes : List ℕ) (new : Option (List ℕ)) (limit : ℕ) → CameBeyond (Some bytes) new limit → limit < length bytes
 more_read bytes None limit h = absurd h.taken
 more_read bytes (Some left) limit h =
@@ -153,7 +153,7 @@ loads_unread gives table item why given = record {
   loads = refl;
 }
 
--- so does the error `NoMemory` if memory ran out while a zone file was read
+-- if memory ran out while a zone file was read, the error `NoMemory` agrees with `loaded`, as `Loads` says
 pub loads_nothing : (gives : Said → Bool) (table : ZoneMap) (item : ZoneItem) → Loads gives table table item (Err (Zone zone.NoMemory))
 unfolding loaded
 loads_nothing gives table item = record { found = record { answer = None; zone = None }; sees = record { given = tt; reads = tt }; loads = refl }
@@ -302,8 +302,8 @@ pub timer_runs : (gives : Said → Bool) (asked : Request) (name bytes : List �
 timer_runs gives asked name bytes r new failed out out' err err' read given fine fails input t =
     timer_by gives asked name bytes r new failed out out' err err' read (base_in asked) refl given fine fails input t
 
--- if a timer file was opened but can't be read, and the error line was written, then the run agrees with `run_on`, as
--- `RunsFile` says
+-- if a timer file was opened but can't be read, and what the run wrote and returned agrees with the report of this
+-- error, then the run agrees with `run_on`, as `RunsFile` says
 pub unread_runs : (gives : Said → Bool) (asked : Request) (name : List ℕ) (why : Unreadable) (r : Result Status RunFault) (out err err' : Option (List ℕ)) → (why ≡ Failed) ⊎ (why ≡ NotUtf8) → IsTrue (gives (FileIs name (Err why)))
     → IfOk r (λ status. status ≡ (file_report asked name (Err whole.ReadFailed)).status) → (file_report asked name (Err whole.ReadFailed)).out ≡ [] → Writes err err' r (file_report asked name (Err whole.ReadFailed)).err
     → RunsFile gives asked name (ran r) out out err err'

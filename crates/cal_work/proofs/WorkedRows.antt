@@ -41,7 +41,7 @@ use Rattle.cal_machine.specs.rules.Seen.{ClockShows, FileIs}
 use Rattle.cal_work.specs.declared.arguments_to_bytes.Ended.{Ended}
 use Rattle.cal_work.specs.rules.Outcome.{World, asked_at, ended_status, err_text, instant_in, local_by, out_text, outcome, outcome_of, present_by, run_by, table_by}
 use Rattle.cal_work.specs.rules.Stop.{Stop, exit_status, memory_stop}
-use Rattle.cal_work.specs.rules.WorkLaw.{IsFixed, IsOr, bare_gives, bare_machine, daily_world, fine_end, fixed_outcome, fixed_world, fixed_zones}
+use Rattle.cal_work.specs.rules.WorkLaw.{IsFixed, IsOrMemoryStop, bare_gives, bare_machine, daily_world, fine_end, fixed_outcome, fixed_world, fixed_zones}
 use Rattle.cal_work.specs.rules.Works.{FitsArguments, Works, WritesErr}
 use Rattle.cal_work.proofs.LawLemmas.{fixed_decides}
 
@@ -148,7 +148,7 @@ daily_works = record {
 
 -- if everything was written, the status is 0, or memory ran out, and standard error says so
 ends_fine_or_full : (err err' : Option (List ℕ)) (failed : Bool) (status : ℕ) (written : Result Unit RunFault) (end : Result Report Stop) → written ≡ Ok tt
-    → IsOr end (Ok daily_report) → status ≡ ended_status written end → WritesErr err err' failed written (err_text end)
+    → IsOrMemoryStop end (Ok daily_report) → status ≡ ended_status written end → WritesErr err err' failed written (err_text end)
     → (status ≡ 0) ⊎ Appends err err' memory_stop.err
 ends_fine_or_full err err' failed status (Ok done) end all (inl same) at_end e =
     inl (at_end ∙ ap (ended_status (Ok done)) same ∙ fine_status daily_report.status daily_fine.status)
@@ -160,5 +160,5 @@ pub daily_is_printed : (out reached err err' : Option (List ℕ)) (failed : Bool
     → ended.written ≡ Ok tt → (ended.status ≡ 0) ⊎ Appends err err' memory_stop.err
 daily_is_printed out reached err err' failed ended w all =
     let decided = fixed_decides bare_gives bare_machine (Some (pos 0)) bare_fixed daily_arguments w.world daily_taken w.fits in
-    let answered = subst (λ answer. IsOr (outcome w.world) (fixed_outcome bare_machine (Some (pos 0)) answer w.world)) daily_asked.1 decided in
-    ends_fine_or_full err err' failed ended.status ended.written (outcome w.world) all (subst (IsOr (outcome w.world)) (daily_known w.world) answered) w.status w.err_bytes
+    let answered = subst (λ answer. IsOrMemoryStop (outcome w.world) (fixed_outcome bare_machine (Some (pos 0)) answer w.world)) daily_asked.1 decided in
+    ends_fine_or_full err err' failed ended.status ended.written (outcome w.world) all (subst (IsOrMemoryStop (outcome w.world)) (daily_known w.world) answered) w.status w.err_bytes

@@ -46,13 +46,13 @@ pub struct Ended {
 
 /// Does what the arguments ask for.
 ///
-/// Reports and the texts of help and the version go to `out`, which is flushed at the end. Error lines go to `err`.
+/// Reports, help and the version go to `out`, which is flushed at the end. Error lines go to `err`.
 ///
 /// The status is 0 for success, help and the version. It is 1 if an expression, a timestamp, a span, the base time or
-/// the timer file is rejected, if the timer file can't be opened, if `out` fails or memory runs out, or if `err` fails
-/// while the error lines of rejected texts are written. It is 2 if the arguments, a zone file, the local zone or the
-/// time on the clock can't be used, even if `err` fails while that is reported. But if the error could be reported, and
-/// `out` can't be flushed after that, the status is 1, and [`Ended::written`] says that `out` failed.
+/// the timer file is rejected, if the timer file can't be opened or read, if `out` fails or memory runs out, or if
+/// `err` fails while the run writes an error line. It is 2 if the arguments, a zone file, the local zone or the time on
+/// the clock can't be used, even if `err` fails while that is reported. But if the error could be reported, and `out`
+/// can't be flushed after that, the status is 1, and [`Ended::written`] says that `out` failed.
 ///
 /// If an output or an allocation fails, each output has a prefix of its whole text. On `err`, the line that reports the
 /// failure follows, unless `err` is what failed. If `err` fails while this line is written, only a prefix of the line
@@ -233,7 +233,7 @@ fn local_zone<'t>(
 }
 
 /// Returns the present instant: the instant given with `--now`, or else the time of the clock. Fails with `Stop::Clock`
-/// if the clock is needed and has no time, or a time outside the supported range.
+/// if the clock is needed but can't be read, or shows a time outside the supported range.
 fn find_present<S: System>(system: &S, given: Option<Instant>) -> Result<Instant, Stop>
     ensures { Presents (λ now. now.secs) S.gives (option_map (λ now. now.secs) given) result }
 {
@@ -243,7 +243,7 @@ fn find_present<S: System>(system: &S, given: Option<Instant>) -> Result<Instant
     }
 }
 
-/// Reads the clock. Fails with `Stop::Clock` if the clock has no time, or a time outside the supported range.
+/// Reads the clock. Fails with `Stop::Clock` if it can't be read, or shows a time outside the supported range.
 fn read_system_clock<S: System>(system: &S) -> Result<Instant, Stop>
     ensures { Reads (λ now. now.secs) S.gives result }
 {
@@ -358,8 +358,8 @@ fn report_end<O: Sink, E: Sink>(answered: &Result<Status, Stop>, out: &mut O, er
     }
 }
 
-/// Reports a stop: help on `out`, other stops on `err`. Fails if the report can't be written. If the stop is that an
-/// output has failed or that memory has run out, writes nothing, and fails with that error, which is reported later.
+/// Reports a stop: help on `out`, other stops on `err`. Fails if the report can't be written. If an output has failed
+/// or memory has run out, writes nothing and fails with that error, which is reported later.
 fn report_stop<O: Sink, E: Sink>(stop: &Stop, out: &mut O, err: &mut E) -> Result<(), RunFault>
     requires out { O.is_failed out.old ≡ stops_for_out stop.now }
     requires err { E.is_failed err.old ≡ stops_for_err stop.now }

@@ -10,15 +10,15 @@ ghost use Rattle.cal_request.specs.rules.Verb.{seeks_elapses};
 ghost use Rattle.cal_work.specs.declared.arguments_to_bytes.Ended.{Ended};
 ghost use Rattle.cal_work.specs.rules.Outcome.{World, outcome};
 ghost use Rattle.cal_work.specs.rules.Stop.{memory_stop};
-ghost use Rattle.cal_work.specs.rules.WorkLaw.{IsFixed, IsOr, bare_gives, bare_machine, daily_world, fine_end, fixed_outcome};
+ghost use Rattle.cal_work.specs.rules.WorkLaw.{IsFixed, IsOrMemoryStop, bare_gives, bare_machine, daily_world, fine_end, fixed_outcome};
 ghost use Rattle.cal_work.specs.rules.Works.{FitsArguments, Works};
 
 /// If the answers of a system never change, and `clap` accepts the arguments, then only one outcome is possible, unless
-/// memory runs out. The outcome can be computed from the arguments, the files, the clock and the zones that `jiff` reads.
+/// memory runs out. It can be computed from the arguments, the files, the clock and the zones that `jiff` reads.
 pub fn fixed_systems_decide()
     ensures { (gives : Said → Bool) (machine : Machine) (clock : Option ℤ) (arguments : List (List ℕ)) (world : World)
         → IsFixed gives machine clock → takes_arguments arguments ≡ true
-        → FitsArguments gives arguments world → IsOr (outcome world) (fixed_outcome machine clock (ask_in arguments) world) }
+        → FitsArguments gives arguments world → IsOrMemoryStop (outcome world) (fixed_outcome machine clock (ask_in arguments) world) }
 {}
 
 /// Shows that the conditions of `fixed_systems_decide` can be met. They are met by a system that has no files and whose
@@ -30,8 +30,8 @@ pub fn bare_systems_decide()
 {}
 
 /// Shows that the clause `headline` of `work` isn't vacuous. The arguments `calendar daily` meet its conditions. On the
-/// system without files whose clock shows 0, a run with these arguments can end with status 0, and each run that writes
-/// everything ends so or reports on standard error that memory ran out.
+/// system without files whose clock shows 0, a run with these arguments can end with status 0. Each run that writes
+/// everything ends with status 0, or reports on standard error that memory ran out.
 pub fn bare_systems_print()
     ensures asked { IsAskOf daily_arguments (Ok daily_ask) × (seeks_elapses daily_ask.verb ≡ true) }
     ensures works { (text : List ℕ) × Works bare_gives daily_arguments (Some []) (Some text) (Some []) (Some []) false fine_end }

@@ -1,4 +1,4 @@
-//! The zones that options of the command lines name.
+//! Zones as options and variables name them.
 
 ghost use Rattle.std.specs.Prelude.{◌≡◌, IfOk, IfSome, option_map};
 ghost use Rattle.cal_zone.specs.rules.ZoneArgument.{HasOffset, shown_zone_argument, zone_argument_in};

@@ -12,8 +12,8 @@ abbrev pub seen : {X Y : Type 0} → (X → Y) → Result X Unreadable → Resul
 seen view (Ok found) = Ok (view found)
 seen view (Err why) = Err why
 
--- A question, and the answer that a call gave. `ClockShows` is the time in seconds of Unix time, None if the clock can't
--- be read.
+-- A question, and the answer that a call gave. `ClockShows` has the seconds of Unix time, or None if the clock can't be
+-- read.
 pub data Said : Type 0 where
   EntryIs : (path : List ℕ) → (answer : Result Entry Unreadable) → Said
   NamesAre : (folder : List ℕ) → (answer : Result Listing Unreadable) → Said
@@ -45,7 +45,8 @@ pub record AllGiven (gives : Said → Bool) (read : Seen) : Type 0 where
   pub given_variable : (name : List ℕ) (answer : Result (Option (List ℕ)) Unreadable) → read.variable name ≡ Some answer
       → IsTrue (gives (VariableIs name answer))
 
--- a machine that agrees with what was read, and otherwise has nothing: no file can be read where none was read
+-- a machine that agrees with what was read and has nothing else: whatever wasn't asked about is missing, empty,
+-- unreadable or unset
 abbrev pub some_machine : Seen → Machine
 some_machine read = record {
   entry = λ path. unwrap_or (read.entry path) (Ok Missing);

@@ -1,7 +1,7 @@
 //! Reports and error lines.
 
 use super::{check, check_refused, perform};
-use cal_library_tests::memory::{Item, Memory};
+use cal_library_tests::memory::{Item, MemorySystem};
 use cal_library_tests::shared::{ensure, zone_file};
 use std::test::Fail;
 
@@ -25,7 +25,7 @@ fn reports(rt: HostRuntime) -> Result<(), Fail> {
         ("f", Item::File(zone.as_slice())),
         ("h", Item::File(b"[Timer]\nOnCalendar=hourly\n")),
     ];
-    let memory = Memory::new(&items);
+    let memory = MemorySystem::new(&items);
     let line = "calendar|--zones=Test/Fixed=f|daily Test/Fixed|daily Test/West";
     let err = "daily Test/West: no such zone\n";
     check(rt.alloc(), memory, (line, ZONE_OF_AN_EXPRESSION, err, 1))?;
@@ -63,7 +63,7 @@ timespan|5x -> 5x: unknown unit
 fn refusals(rt: HostRuntime) -> Result<(), Fail> {
     let zone = zone_file(rt.alloc())?;
     let items = [("f", Item::File(zone.as_slice()))];
-    let memory = Memory::new(&items);
+    let memory = MemorySystem::new(&items);
     check_refused(rt.alloc(), memory, REFUSED_OPTIONS, 2)?;
     check_refused(rt.alloc(), memory, REFUSED_TEXTS, 1)
 }
@@ -93,12 +93,17 @@ timer|l -> l: cannot be read
 ";
 
 #[test]
-fn the_first_is_told(rt: HostRuntime) -> Result<(), Fail> {
+fn only_the_first_error_is_reported(rt: HostRuntime) -> Result<(), Fail> {
     let items = [("f", Item::File(b"hello")), ("l", Item::Locked)];
-    let memory = Memory::new(&items);
+    let memory = MemorySystem::new(&items);
     for time in &[None, Some(-1), Some(7_258_211_999)] {
         let time = *time;
-        check_refused(rt.alloc(), Memory { time, ..memory }, WITHOUT_CLOCK, 2)?;
+        check_refused(
+            rt.alloc(),
+            MemorySystem { time, ..memory },
+            WITHOUT_CLOCK,
+            2,
+        )?;
     }
     check_refused(rt.alloc(), memory, WITH_CLOCK, 1)
 }
@@ -106,7 +111,7 @@ fn the_first_is_told(rt: HostRuntime) -> Result<(), Fail> {
 /// Checks that help goes to standard output, and usage errors go to standard error.
 #[test]
 fn help_and_usage(rt: HostRuntime) -> Result<(), Fail> {
-    let memory = Memory::new(&[]);
+    let memory = MemorySystem::new(&[]);
     let help = perform(rt.alloc(), memory, "--help")?;
     ensure(!help.out.is_empty() && help.err.is_empty(), "--help")?;
     ensure(help.status == 0, "--help")?;

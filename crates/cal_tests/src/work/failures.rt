@@ -2,7 +2,7 @@
 
 use super::{check, perform};
 use cal_bytes::{Faulty, Port, Then};
-use cal_library_tests::memory::{Item, Memory};
+use cal_library_tests::memory::{Item, MemorySystem};
 use cal_library_tests::shared::{ensure, zone_file};
 use cal_request::RunFault;
 use cal_work::{Ended, work};
@@ -10,16 +10,16 @@ use std::alloc::Global;
 use std::io::BufWriter;
 use std::test::Fail;
 
-/// Expects the file `f` to be reported with the error line `told` if it is this item, and with this status.
-fn check_file(
+/// Expects a file `f` with these bytes to be reported with the error line `told` and this status.
+fn check_bytes(
     alloc: Global,
-    item: Item<'_>,
+    bytes: &[u8],
     line: &str,
     told: &str,
     status: u8,
 ) -> Result<(), Fail> {
-    let items = [("f", item)];
-    check(alloc, Memory::new(&items), (line, "", told, status))
+    let items = [("f", Item::File(bytes))];
+    check(alloc, MemorySystem::new(&items), (line, "", told, status))
 }
 
 const ZONE_UNREAD: &str = "calendar-analyze: --zones: A: cannot be read\n";
@@ -34,32 +34,32 @@ const TIMER_TOO_LARGE: &str = "f: larger than 1048576 bytes\n";
 
 const TIMER_CUT: &str = "f: no calendar expression\n";
 
-/// Tests a zone file and a timer file that can't be read, that is one byte too large, and of which only a part is there.
+/// Tests a zone file and a timer file that can't be read.
 #[test]
 fn files_that_fail(rt: HostRuntime) -> Result<(), Fail> {
+    let locked = MemorySystem::new(&[("f", Item::Locked)]);
+    let line = "calendar|--zones=A=f|daily";
+    check(rt.alloc(), locked, (line, "", ZONE_UNREAD, 2))?;
+    check(rt.alloc(), locked, ("timer|f", "", TIMER_UNREAD, 1))
+}
+
+/// Tests a zone file and a timer file that are one byte too large, or of which only a part is there.
+#[test]
+fn files_that_are_rejected(rt: HostRuntime) -> Result<(), Fail> {
     let large = vec![in rt.alloc(); b'#'; 1_048_577]?;
     let zone = zone_file(rt.alloc())?;
-    let part = Item::File(&zone.as_slice()[..60]);
+    let part = zone.as_slice().get(..60).ok_or("a short file")?;
     let line = "calendar|--zones=A=f|daily";
-    check_file(rt.alloc(), Item::Locked, line, ZONE_UNREAD, 2)?;
-    check_file(rt.alloc(), Item::File(&large), line, ZONE_TOO_LARGE, 2)?;
-    check_file(rt.alloc(), part, line, ZONE_CUT, 2)?;
-    let part = Item::File(b"[Timer]\n");
-    check_file(rt.alloc(), Item::Locked, "timer|f", TIMER_UNREAD, 1)?;
-    check_file(
-        rt.alloc(),
-        Item::File(&large),
-        "timer|f",
-        TIMER_TOO_LARGE,
-        1,
-    )?;
-    check_file(rt.alloc(), part, "timer|f", TIMER_CUT, 1)
+    check_bytes(rt.alloc(), &large, line, ZONE_TOO_LARGE, 2)?;
+    check_bytes(rt.alloc(), part, line, ZONE_CUT, 2)?;
+    check_bytes(rt.alloc(), &large, "timer|f", TIMER_TOO_LARGE, 1)?;
+    check_bytes(rt.alloc(), b"[Timer]\n", "timer|f", TIMER_CUT, 1)
 }
 
 /// Runs the program with a standard output that fails after 3 bytes. Expects standard output to have the first 3 bytes
 /// of `whole`, standard error to report the failure, and the status to be 1.
 fn check_cut_out(alloc: Global, args: &[&str], whole: &[u8]) -> Result<(), Fail> {
-    let memory = Memory::new(&[]);
+    let memory = MemorySystem::new(&[]);
     let writer = Faulty::new(Vec::new(alloc), 7, 3, Then::Error);
     let mut out = Port::new(BufWriter::new(alloc, writer)?);
     let mut err = Port::new(Vec::new(alloc));
@@ -85,7 +85,7 @@ const HOUR: &str = "Original: 1h
 
 #[test]
 fn outputs_that_fail(rt: HostRuntime) -> Result<(), Fail> {
-    let memory = Memory::new(&[]);
+    let memory = MemorySystem::new(&[]);
     let help = perform(rt.alloc(), memory, "--help")?;
     check_cut_out(rt.alloc(), &["timespan", "1h"], HOUR.as_bytes())?;
     check_cut_out(rt.alloc(), &["--help"], help.out.as_slice())
@@ -94,7 +94,7 @@ fn outputs_that_fail(rt: HostRuntime) -> Result<(), Fail> {
 /// Runs the program with a standard error that fails after 3 bytes. Expects standard error to have `front`, the first 3
 /// bytes of the error line, and the status to be the one that the run would have without the failure.
 fn check_cut_err(alloc: Global, args: &[&str], front: &str, status: u8) -> Result<(), Fail> {
-    let memory = Memory::new(&[]);
+    let memory = MemorySystem::new(&[]);
     let mut out = Port::new(BufWriter::new(alloc, Vec::new(alloc))?);
     let mut err = Port::new(Faulty::new(Vec::new(alloc), 7, 3, Then::Zero));
     let ended = work(alloc, &memory, args, &mut out, &mut err);

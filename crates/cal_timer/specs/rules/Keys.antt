@@ -37,8 +37,8 @@ abbrev pub is_exception_key : Option KeyKind → Bool
 is_exception_key (Some Exception) = true
 is_exception_key _ = false
 
--- whether an assignment with such a key clears the list of expressions if its value is empty: those of `OnCalendar` and
--- of the keys that start the unit a time span after an event
+-- whether an empty value clears the list of expressions, if the key is of this kind: `OnCalendar`, or a key that starts
+-- the unit a time span after an event
 abbrev pub clears_expressions : Option KeyKind → Bool
 clears_expressions (Some SpanTrigger) = true
 clears_expressions (Some CalendarTrigger) = true

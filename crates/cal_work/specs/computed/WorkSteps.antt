@@ -88,7 +88,7 @@ IsBadRule (at_offset seconds) = ⊥
 IsBadRule (by_rule rule) = IsSome (rule_read rule) → ⊥
 IsBadRule (of_name name) = ⊥
 
--- what determining the local zone returned agrees with `local_by`; `zone` is the local zone as `jiff` represents it
+-- what determining the local zone returned agrees with `local_by`; `zone` is the local zone
 pub record FindsLocal {T : Type 0} (view : T → ClockZone) (local : ZoneArgument) (table : ZoneMap) (result : Result T declared_stop.Stop) : Type 0 where
   pub zone : ClockZone
   pub is_local : IfOk (local_by local table zone) (IsLocal local table)

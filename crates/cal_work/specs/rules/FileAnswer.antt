@@ -6,7 +6,7 @@ use Rattle.cal_machine.specs.declared.tree.Unreadable.{Unreadable}
 use Rattle.cal_machine.specs.rules.Seen.{Said, FileIs}
 
 -- What the system answered when the program read a file: its bytes, but at most the first 1,048,577 of them, or why it
--- can't be read. None if memory ran out while the file was read or its bytes were used.
+-- can't be read. None if no file was read, or if memory ran out while the file was read or parsed.
 abbrev pub FileAnswer : Type 0
 FileAnswer = Option (Result (List ℕ) Unreadable)
 

@@ -56,7 +56,7 @@ abbrev pub with_zone : ZoneMap → List ℕ → Option TimeZone → Result ZoneM
 with_zone table name None = Err (Zone BadFile)
 with_zone table name (Some zone) = if is_taken table name then Err (Zone NameTaken) else Ok (insert table name zone)
 
--- The same, if these are the bytes of the file. First the name is checked, and then the size.
+-- `with_zone` for a file with these bytes; first the zone's name is checked, and then the file's size
 abbrev pub with_bytes : ZoneMap → List ℕ → Option TimeZone → List ℕ → Result ZoneMap LoadFault
 with_bytes table name read bytes =
     if is_zone_name name

@@ -38,16 +38,16 @@ abbrev pub IsPresent : (Said → Bool) → Option ℤ → ℤ → Type 0
 IsPresent gives (Some given) now = (now ≡ given) × IsInstant now
 IsPresent gives None now = IsTrue (gives (ClockShows (Some now))) × IsInstant now
 
--- `table` has the zones in `before`, and the zone of each of these files: the one that `jiff` reads from the bytes that
--- the system gave, under the name that the arguments give it. It has no other zones, and no name stands for two zones.
+-- `table` is `before` with the zone of each file added, in order, under the name that the arguments give it: the zone
+-- that `jiff` reads from the bytes that the system gave. No name is added twice.
 abbrev pub AreZonesOf : (Said → Bool) → ZoneMap → List ZoneItem → ZoneMap → Type 0
 AreZonesOf gives before [] table = table ≡ before
 AreZonesOf gives before (item ∷ items) table =
     (bytes : List ℕ) × (tz : TimeZone) × IsTrue (gives (FileIs item.path (Ok bytes))) × IsFileZone item.name bytes tz
     × (is_taken before item.name ≡ false) × AreZonesOf gives (insert before item.name tz) items table
 
--- `asked` is the request that the arguments make of the system. Its verb, texts, number of elapses, base time and local
--- zone are those that the arguments give. Its present and its zones come from the arguments, the clock and the files.
+-- `asked` is the request that the arguments and the system give together. Its verb, texts, number of elapses, base time
+-- and local zone come from the arguments; its present and its zones from the arguments, the clock and the files.
 pub record IsRequestOf (gives : Said → Bool) (ask : Ask) (asked : Request) : Type 0 where
   pub verb : asked.verb ≡ ask.verb
   pub texts : asked.texts ≡ ask.texts

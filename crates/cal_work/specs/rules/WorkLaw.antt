@@ -1,7 +1,7 @@
--- If the answers of a system never change, and `clap` accepts the arguments, there is only one possible outcome, unless
--- memory runs out. The outcome depends on the system, on what `clap` finds in the arguments, and on the zones that `jiff`
--- reads from the files. `bare_machine` is an example of such a system, and `daily_world` is the world that the program
--- finds in it.
+-- Definitions for the laws in work_laws.rt. If the answers of a system never change, and `clap` accepts the arguments,
+-- there is only one possible outcome, unless memory runs out. It depends on the system, on what `clap` finds in the
+-- arguments, and on the zones that `jiff` reads from the files. `bare_gives` is an example of such a system, and
+-- `daily_world` is the world that the program finds in it.
 use Rattle.std.specs.Prelude.{◌≡◌, ◌⊎◌, ℕ, ℤ, IsTrue, Bool, true, false, List, [], ◌∷◌, Option, None, Some, Result, Ok, Err, pos, zero}
 use Rattle.cal_command.specs.rules.Ask.{Ask, ZoneItem}
 use Rattle.cal_command.specs.rules.CommandFault.{CommandFault}
@@ -19,8 +19,8 @@ use Rattle.cal_command.specs.rules.WorkedArguments.{daily_ask}
 use Rattle.cal_zone.specs.rules.Zone.{utc}
 use Rattle.cal_work.specs.declared.arguments_to_bytes.Ended.{Ended}
 
--- the answers of the system never change: about its files it gives only those of this machine, and its clock only shows
--- this time
+-- the answers of the system never change: about files, it gives only the answers of this machine, and its clock always
+-- shows this time
 pub record IsFixed (gives : Said → Bool) (machine : Machine) (clock : Option ℤ) : Type 0 where
   pub files : (path : List ℕ) (answer : Result (List ℕ) Unreadable) → IsTrue (gives (FileIs path answer)) → answer ≡ machine.file path
   pub time : (shown : Option ℤ) → IsTrue (gives (ClockShows shown)) → shown ≡ clock
@@ -33,7 +33,7 @@ fixed_zones machine (item ∷ items) [] = []
 fixed_zones machine (item ∷ items) (f ∷ found) =
     record { answer = Some (machine.file item.path); zone = f.zone } ∷ fixed_zones machine items found
 
--- the answer about the timer file of a machine, if the request is for one
+-- the machine's answer about the timer file, or None if the request is for texts
 abbrev pub fixed_file : Machine → RequestKind → FileAnswer
 fixed_file machine (for_texts verb texts) = None
 fixed_file machine (for_file path) = Some (machine.file path)
@@ -54,8 +54,8 @@ fixed_outcome machine clock (Ok ask) world = outcome (fixed_world machine clock 
 fixed_outcome machine clock (Err fault) world = Err (command_stop fault)
 
 -- `expected` is the outcome `fixed`, or the stop for running out of memory
-abbrev pub IsOr : {T : Type 0} → Result T Stop → Result T Stop → Type 0
-IsOr expected fixed = (expected ≡ fixed) ⊎ (expected ≡ Err memory_stop)
+abbrev pub IsOrMemoryStop : {T : Type 0} → Result T Stop → Result T Stop → Type 0
+IsOrMemoryStop expected fixed = (expected ≡ fixed) ⊎ (expected ≡ Err memory_stop)
 
 -- a machine without files
 abbrev pub bare_machine : Machine

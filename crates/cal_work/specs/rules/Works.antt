@@ -33,7 +33,8 @@ abbrev pub IsReadZone : List ℕ → List ℕ → Option TimeZone → Type 0
 IsReadZone name bytes None = IsFileFault name bytes BadFile
 IsReadZone name bytes (Some zone) = IsFileZone name bytes zone
 
--- `jiff` only reads a file whose zone has a valid name and which isn't too large
+-- if the program passes the file to `jiff` (it was read, its zone's name is valid, and it isn't too large), then `read`
+-- is the zone that `jiff` reads from it, or None if `jiff` rejects it
 abbrev pub ReadsZone : List ℕ → FileAnswer → Option TimeZone → Type 0
 ReadsZone name None read = Unit {0}
 ReadsZone name (Some (Err why)) read = Unit {0}
@@ -51,7 +52,7 @@ SeesZones gives table (item ∷ items) [] = ⊥
 SeesZones gives table (item ∷ items) (f ∷ found) =
     SeesZone gives item f × IfOk (loaded table item f) (λ more. SeesZones gives more items found)
 
--- `zone` is the local zone that the arguments ask for, as `jiff` represents it
+-- `zone` is the local zone that the arguments ask for; `zone_of zone` is its `TimeZone` of `jiff`
 abbrev pub IsLocal : ZoneArgument → ZoneMap → ClockZone → Type 0
 IsLocal in_utc table zone = zone ≡ utc
 IsLocal (at_offset seconds) table zone =

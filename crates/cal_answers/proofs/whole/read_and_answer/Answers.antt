@@ -1,5 +1,5 @@
 use Rattle.std.proofs.lemmas.Result.{IfOk-weaker}
-use Rattle.cal_answers.proofs.whole.answer_on.Goals as goal
+use Rattle.cal_answers.proofs.whole.read_and_answer.Goals as goal
 
 pub returns-clause-answer : goal.returns-clause-answer
 returns-clause-answer g c =
