@@ -9,7 +9,6 @@ use Rattle.std.proofs.lemmas.List.{append_cancel_left}
 use Rattle.cal_bytes.specs.rules.Bytes.{joined}
 use Rattle.cal_bytes.specs.rules.Writes.{AppendsFront}
 use Rattle.cal_bytes.specs.declared.whole.WholeFault.{WholeFault}
-use Rattle.cal_bytes.specs.declared.whole.WholeFault.TheVariants as whole
 use Rattle.cal_spec.specs.computed.Expr.{expr_in}
 use Rattle.cal_spec.specs.rules.Fields.{Fields}
 use Rattle.cal_stamp.specs.declared.fault.StampFault.{StampFault}
