@@ -83,11 +83,15 @@ def printed(*command):
     return subprocess.run(command, check=True, stdout=subprocess.PIPE, text=True).stdout
 
 
+def verbs_in(text):
+    """Returns the verbs that the help of a program lists, `help` included, each with what the help says about it."""
+    return [re.split(r" {2,}", entry, maxsplit=1) for entry in section(text, "Verbs") or section(text, "Commands")]
+
+
 def verbs_of(program):
-    """Returns the verbs of the program, with the options that the help of each lists."""
-    text, found = printed(program, "--help"), []
-    for entry in section(text, "Verbs") or section(text, "Commands"):
-        name, about = re.split(r" {2,}", entry, maxsplit=1)
+    """Returns the verbs of the program except `help`, with the options that the help of each lists."""
+    found = []
+    for name, about in verbs_in(printed(program, "--help")):
         if name != "help":
             found.append(Verb(name, brief(about), options_in(printed(program, name, "--help"))))
     return found
@@ -194,4 +198,5 @@ def main():
     return 0
 
 
-sys.exit(main())
+if __name__ == "__main__":
+    sys.exit(main())

@@ -4,15 +4,27 @@
     tests/manual.py PROGRAM TIMERS
 
 PROGRAM is calendar-analyze, and TIMERS is calendar-timers. mandoc or groff must not warn of anything, and no line may
-be longer than 80 columns, neither in the source nor as they show the page. Each page names the verbs and options of the
-`--help` texts of its program and no others, and the program's version. The section DIAGNOSTICS of calendar-analyze has
-all error messages of that program's crates and no others. Without a suitable C library, that program ends with the
-statuses that its page names. The last line is 'N passed, M failed', with ', K skipped' if mandoc and groff are missing,
-and the status is 1 if a test failed."""
+be longer than 80 columns, neither in the source nor as they show the page. Each page names the program's version, and
+the verbs of its `--help` in SYNOPSIS and in VERBS. It names the options of the `--help` texts and no others.
+
+For each verb, the section OPTIONS has the options that `--help` of the verb lists and no others, with the same short
+forms and the same names of values. An entry of that section belongs to
+
+- the verbs in its first sentence, if this begins "With VERB, VERB and VERB,";
+- all verbs but some, if it has a sentence "Not with VERB or VERB.";
+- no verb, if the option "is given without a verb";
+- all verbs otherwise, as a sentence above the entries has to say.
+
+`help` takes no options. In VERBS, the entry of a verb mentions only options of this verb.
+
+The section DIAGNOSTICS of calendar-analyze has all error messages of that program's crates and no others. Without a
+suitable C library, that program ends with the statuses that its page names. The last line is 'N passed, M failed', with
+', K skipped' if mandoc and groff are missing, and the status is 1 if a test failed."""
 
 import glob
 import os
 import re
+import shlex
 import shutil
 import subprocess
 import sys
@@ -23,6 +35,9 @@ sys.path.insert(0, f"{os.path.dirname(os.path.realpath(__file__))}/lib")
 import repository
 from repository import ROOT
 
+sys.path.insert(0, f"{ROOT}/completions")
+import generate
+
 # For each formatter the command that prints warnings, and the one that shows the page.
 FORMATTERS = [
     (["mandoc", "-T", "lint", "-W", "warning"], ["mandoc", "-T", "utf8"]),
@@ -30,6 +45,11 @@ FORMATTERS = [
 ]
 # What a terminal doesn't show: a character that the next one is printed over, and colours.
 UNSEEN = re.compile("(?:.\b|\x1b\\[[0-9;]*m)")
+# What the section OPTIONS says above its entries, and what an entry says about the verbs that have the option.
+EVERY_VERB = "Each verb except help accepts these options, unless an entry says otherwise."
+WITH = re.compile(r"With\n((?:\.BR? \w+(?: ,)?\n(?:and\n)?)+)")
+NOT_WITH = re.compile(r"\bNot\s+with\n((?:\.BR? \w+(?: [,.])?\n(?:or\n)?)+)")
+NO_VERB = re.compile(r"\bis\s+given\s+without\s+a\s+verb\b")
 # The sources of the help texts.
 HELP_TEXTS = {"arguments.rt", "clap_command.rt", "verb_help.rt"}
 # Messages that the program never prints: names of zones are checked with the command line, a bad rule is reported as one
@@ -85,12 +105,85 @@ def messages_of_page(page):
     return set(re.findall(r'^\.T[PQ]\n\.BI? "?((?!"?error: ")[^"\n]+)', section, re.M))
 
 
-def names_of_help(program):
-    """Returns the verbs and the options that the help texts name."""
-    help_text = printed(program, "--help")
-    verbs = re.findall(r"^  ([a-z]+)  ", re.split("Commands:|Verbs:", help_text)[1].partition("Options:")[0], re.M)
-    texts = [help_text, *(printed(program, verb, "--help") for verb in verbs)]
-    return set(verbs), set(re.findall(r"^ +(?:-\w, )?(--[a-z-]+)", "".join(texts), re.M))
+def as_on_page(option):
+    """Returns an option of a help text as the tag of an entry shows it. An ellipsis has three dots there."""
+    value = re.sub(r"\.{2,}", "...", option.value)
+    short = f"-{option.short}{value and f' {value}'}, " if option.short else ""
+    return f"{short}--{option.name}{value and f'={value}'}"
+
+
+def options_of_help(program):
+    """Returns for each verb the options that its help lists, and for "no verb" those that only the help of the program
+    lists."""
+    text = printed(program, "--help")
+    found = {name: set() for name, _ in generate.verbs_in(text)}
+    found |= {verb.name: set(map(as_on_page, verb.options)) for verb in generate.verbs_of(program)}
+    return {**found, "no verb": set(map(as_on_page, generate.options_in(text))).difference(*found.values())}
+
+
+def tag_of(line):
+    """Returns the text of a line with a font macro. Only `.B` and `.I` put blanks between their arguments."""
+    macro, *words = shlex.split(re.sub(r"\\f[BIPR]", "", line))
+    return (" " if macro in (".B", ".I") else "").join(words)
+
+
+def entries(page, title):
+    """Returns what a section says above its entries, and for each entry the tag and the text."""
+    section = page.partition(f"\n.SH {title}\n")[2].partition("\n.SH ")[0]
+    above, *parts = re.split(r"^\.TP\n", f"{section}\n", flags=re.M)
+    return above, [(tag_of(line), text) for line, _, text in (part.partition("\n") for part in parts)]
+
+
+def bold_words(text):
+    return set(re.findall(r"^\.BR? (\w+)", text, re.M))
+
+
+def verbs_of_entry(text, verbs):
+    """Returns the verbs that have the option of an entry. `verbs` has those of an entry that doesn't say which."""
+    if NO_VERB.search(text):
+        return {"no verb"}
+    named = WITH.match(text)
+    excluded = bold_words("".join(NOT_WITH.findall(text)))
+    # A word after "Not with" that isn't one of the verbs becomes one here, so that it is reported.
+    return (bold_words(named[1]) if named else verbs) ^ excluded
+
+
+def unsaid(page):
+    """Returns the sentence that the section OPTIONS needs above its entries, if it isn't there."""
+    above = " ".join(re.sub(r"^\.BR? ", "", entries(page, "OPTIONS")[0], flags=re.M).split())
+    return "" if EVERY_VERB in above else f"missing on the page: {EVERY_VERB}\n"
+
+
+def options_of_page(page, verbs):
+    """Returns for each verb the options that it has by the section OPTIONS."""
+    every = verbs - {"help"}
+    found = [(verb, tag) for tag, text in entries(page, "OPTIONS")[1] for verb in verbs_of_entry(text, every)]
+    return {verb: {tag for other, tag in found if other == verb} for verb, _ in found}
+
+
+def option_names(text):
+    return set(re.findall(r"--[a-z-]+", text))
+
+
+def misplaced(page, of_program):
+    """Returns a line for each option that the entry of a verb in VERBS mentions, but that the verb doesn't have."""
+    known, found = {verb: option_names(" ".join(own)) for verb, own in of_program.items()} | {"help": {"--help"}}, ""
+    for tag, text in entries(page, "VERBS")[1]:
+        verb = tag.split()[0]
+        found += "".join(f"{verb} has no {name}\n" for name in sorted(option_names(text) - known.get(verb, set())))
+    return found
+
+
+def verb_sets(name, page, of_program):
+    """Returns for each test of verbs and options those on the page and those of the program."""
+    verbs = of_program.keys() - {"no verb"}
+    found, none = options_of_page(page, verbs), set()
+    sets = {f"options of {verb}": (found.get(verb, none), of_program.get(verb, none)) for verb in of_program | found}
+    sets["options"] = option_names(page), option_names(" ".join(set().union(*of_program.values())))
+    synopsis = page.partition("\n.SH DESCRIPTION\n")[0]
+    sets["verbs in SYNOPSIS"] = set(re.findall(rf"^\.B {name} (\w+)", synopsis, re.M)), verbs
+    sets["verbs in VERBS"] = {tag.split()[0] for tag, _ in entries(page, "VERBS")[1]}, verbs
+    return sets
 
 
 def loader_faults(program):
@@ -115,12 +208,10 @@ def page_faults(name, program):
     with open(path, encoding="utf-8") as file:
         source = file.read()
     page, faults = source.replace("\\-", "-"), form_faults(path, source)
-    verbs, options = names_of_help(program)
-    sets = {
-        "verbs": (set(re.findall(rf"^\.B {name} (\w+)", page, re.M)), verbs),
-        "options": (set(re.findall(r"--[a-z-]+", page)), options),
-        "version": (set(re.findall(rf'^\.TH .*"({name} [\d.]+)"', page)), {printed(program, "--version").strip()}),
-    }
+    options = options_of_help(program)
+    faults["options of verbs that no entry names"] = unsaid(page)
+    faults["options in VERBS"], sets = misplaced(page, options), verb_sets(name, page, options)
+    sets["version"] = set(re.findall(rf'^\.TH .*"({name} [\d.]+)"', page)), {printed(program, "--version").strip()}
     if name == "calendar-analyze":
         faults["status of the loader"] = loader_faults(program)
         sets["messages"] = messages_of_page(page), messages_of_sources()
