@@ -124,31 +124,31 @@ among_either None None true false = refl
 among_either None d false c = refl
 
 -- if several stems, and then one more, were added to an index, all of them were added
-pub stems_more : (machine : Machine) (path : List (List ℕ)) (folder : List ℕ) (stems : List (List ℕ)) (stem : List ℕ) (old mid new : UnitIndex)
-    → HasStems machine path folder stems old mid → HasStems machine path folder (stem ∷ []) mid new
-    → HasStems machine path folder (stems ++ stem ∷ []) old new
-stems_more machine path folder stems stem old mid new had more = record {
+pub stems_more : (machine : Machine) (search_path : List (List ℕ)) (folder : List ℕ) (stems : List (List ℕ)) (stem : List ℕ) (old mid new : UnitIndex)
+    → HasStems machine search_path folder stems old mid → HasStems machine search_path folder (stem ∷ []) mid new
+    → HasStems machine search_path folder (stems ++ stem ∷ []) old new
+stems_more machine search_path folder stems stem old mid new had more = record {
   destinations = λ other.
-      let destination = unless_unreadable (destination_at_path machine path folder other) in
+      let destination = unless_unreadable (destination_at_path machine search_path folder other) in
       more.destinations other
-      ∙ ap (λ found. option_or found (destination_by machine path folder (stem ∷ []) other)) (had.destinations other)
+      ∙ ap (λ found. option_or found (destination_by machine search_path folder (stem ∷ []) other)) (had.destinations other)
       ∙ among_either (destination_of old other) destination (is_among stems other) (is_among (stem ∷ []) other)
       ∙ ap (λ b. option_or (destination_of old other) (cond b destination None)) (sym (list_any-append (bytes_eq other) stems (stem ∷ [])));
   unreadable =
       more.unreadable
-      ∙ ap (λ faults. faults ++ faults_of_stems machine path folder (stem ∷ [])) had.unreadable
-      ∙ append_assoc (map shown_fault old.unreadable.items) (faults_of_stems machine path folder stems) (faults_of_stems machine path folder (stem ∷ []))
-      ∙ ap (λ faults. map shown_fault old.unreadable.items ++ faults) (sym (filter_map-append (fault_of_stem machine path folder) stems (stem ∷ [])));
+      ∙ ap (λ faults. faults ++ faults_of_stems machine search_path folder (stem ∷ [])) had.unreadable
+      ∙ append_assoc (map shown_fault old.unreadable.items) (faults_of_stems machine search_path folder stems) (faults_of_stems machine search_path folder (stem ∷ []))
+      ∙ ap (λ faults. map shown_fault old.unreadable.items ++ faults) (sym (filter_map-append (fault_of_stem machine search_path folder) stems (stem ∷ [])));
   folders = more.folders ∙ had.folders;
 }
 
-pub next_stem : {X : Type 0} (machine : Machine) (path : List (List ℕ)) (folder : List ℕ) (view : X → List ℕ) (stems : List X) (i : ℕ) (other : X) (old mid new : UnitIndex)
+pub next_stem : {X : Type 0} (machine : Machine) (search_path : List (List ℕ)) (folder : List ℕ) (view : X → List ℕ) (stems : List X) (i : ℕ) (other : X) (old mid new : UnitIndex)
     → i < length stems
-    → HasStems machine path folder (map view (take i stems)) old mid → HasStems machine path folder (view (get_or stems i other) ∷ []) mid new
-    → HasStems machine path folder (map view (take (i + 1) stems)) old new
-next_stem machine path folder view stems i other old mid new h had more =
+    → HasStems machine search_path folder (map view (take i stems)) old mid → HasStems machine search_path folder (view (get_or stems i other) ∷ []) mid new
+    → HasStems machine search_path folder (map view (take (i + 1) stems)) old new
+next_stem machine search_path folder view stems i other old mid new h had more =
     let stem = get_or stems i other in
-    rw (take_more stems i other h, map-append view (take i stems) (stem ∷ [])) (stems_more machine path folder (map view (take i stems)) (view stem) old mid new had more)
+    rw (take_more stems i other h, map-append view (take i stems) (stem ∷ [])) (stems_more machine search_path folder (map view (take i stems)) (view stem) old mid new had more)
 
 first_or : {X : Type 0} (xs : List X) (o : Option X) → slice_get (xs ++ option_to_list o) 0 ≡ option_or (slice_get xs 0) o
 first_or [] None = refl
@@ -162,15 +162,15 @@ first_more f xs x = ap (λ ys. slice_get ys 0) (filter_map_more f xs x) ∙ firs
 
 -- if `old` is the index of the folders `done`, and `after` also has what the stems in one more folder lead to, then
 -- `after` with this folder is the index of `done` and this folder
-pub folder_more : (machine : Machine) (path : List (List ℕ)) (folder : List ℕ) (done : List (List ℕ)) (old after : UnitIndex)
+pub folder_more : (machine : Machine) (search_path : List (List ℕ)) (folder : List ℕ) (done : List (List ℕ)) (old after : UnitIndex)
     (unreadable : Vec UnitFault Global) (folders : Vec SearchFolder Global) (item : SearchFolder)
     → map shown_fault unreadable.items ≡ map shown_fault old.unreadable.items ++ faults_of_listing folder (names_at machine folder)
     → shown_folder item ≡ searched machine folder
-    → HasStems machine path folder (stems_of (listed machine folder)) (record old { unreadable = unreadable }) after
+    → HasStems machine search_path folder (stems_of (listed machine folder)) (record old { unreadable = unreadable }) after
     → folders.items ≡ after.folders.items ++ item ∷ []
-    → IsIndexUpTo machine path done old
-    → IsIndexUpTo machine path (done ++ folder ∷ []) (record after { folders = folders })
-folder_more machine path folder done old after unreadable folders item faulty is stems added had =
+    → IsIndexUpTo machine search_path done old
+    → IsIndexUpTo machine search_path (done ++ folder ∷ []) (record after { folders = folders })
+folder_more machine search_path folder done old after unreadable folders item faulty is stems added had =
     let stems_there = stems_of (listed machine folder) in
     record {
       folders =
@@ -181,14 +181,14 @@ folder_more machine path folder done old after unreadable folders item faulty is
           ∙ sym (map-append (searched machine) done (folder ∷ []));
       destinations = λ stem.
           stems.destinations stem
-          ∙ ap (λ found. option_or found (destination_at machine path stem folder)) (had.destinations stem)
-          ∙ sym (first_more (destination_at machine path stem) done folder);
+          ∙ ap (λ found. option_or found (destination_at machine search_path stem folder)) (had.destinations stem)
+          ∙ sym (first_more (destination_at machine search_path stem) done folder);
       unreadable =
           stems.unreadable
-          ∙ ap (λ faults. faults ++ faults_of_stems machine path folder stems_there) faulty
-          ∙ append_assoc (map shown_fault old.unreadable.items) (faults_of_listing folder (names_at machine folder)) (faults_of_stems machine path folder stems_there)
-          ∙ ap (λ faults. faults ++ unreadable_at machine path folder) had.unreadable
-          ∙ flat_map_more (unreadable_at machine path) [] done folder;
+          ∙ ap (λ faults. faults ++ faults_of_stems machine search_path folder stems_there) faulty
+          ∙ append_assoc (map shown_fault old.unreadable.items) (faults_of_listing folder (names_at machine folder)) (faults_of_stems machine search_path folder stems_there)
+          ∙ ap (λ faults. faults ++ unreadable_at machine search_path folder) had.unreadable
+          ∙ flat_map_more (unreadable_at machine search_path) [] done folder;
     }
 
 -- ## The index of a whole search path
@@ -199,12 +199,12 @@ same_lookup one other same = λ i stem. same stem i
 
 -- if `make` is applied to each folder of an index, the result is the same as for each folder of the search path on the
 -- machine
-pub each_folder : {X : Type 0} (machine : Machine) (path : List (List ℕ)) (index : UnitIndex) (make : (List ℕ → Option Destination) → List (List ℕ) → List X)
-    → map shown_folder index.folders.items ≡ map (searched machine) path
-    → ((stem : List ℕ) → destination_of index stem ≡ destination_in machine path stem)
+pub each_folder : {X : Type 0} (machine : Machine) (search_path : List (List ℕ)) (index : UnitIndex) (make : (List ℕ → Option Destination) → List (List ℕ) → List X)
+    → map shown_folder index.folders.items ≡ map (searched machine) search_path
+    → ((stem : List ℕ) → destination_of index stem ≡ destination_in machine search_path stem)
     → flat_map (λ folder. make (destination_of index) folder.names) (map shown_folder index.folders.items)
-    ≡ flat_map (λ folder. make (destination_in machine path) (listed machine folder)) path
-each_folder machine path index make folders destinations =
-    ap (λ lookup. flat_map (λ (folder : Searched). make lookup folder.names) (map shown_folder index.folders.items)) (same_lookup (destination_of index) (destination_in machine path) destinations)
-    ∙ ap (flat_map (λ (folder : Searched). make (destination_in machine path) folder.names)) folders
-    ∙ flat_map-map (λ (folder : Searched). make (destination_in machine path) folder.names) (searched machine) path
+    ≡ flat_map (λ folder. make (destination_in machine search_path) (listed machine folder)) search_path
+each_folder machine search_path index make folders destinations =
+    ap (λ lookup. flat_map (λ (folder : Searched). make lookup folder.names) (map shown_folder index.folders.items)) (same_lookup (destination_of index) (destination_in machine search_path) destinations)
+    ∙ ap (flat_map (λ (folder : Searched). make (destination_in machine search_path) folder.names)) folders
+    ∙ flat_map-map (λ (folder : Searched). make (destination_in machine search_path) folder.names) (searched machine) search_path

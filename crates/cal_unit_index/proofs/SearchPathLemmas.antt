@@ -26,12 +26,12 @@ pub directories_are : (variables : UserVariables) (config share : List ℕ) (run
     ≡ user_folders (directories_of config share (shown_variables variables))
 directories_are variables config share runtime_dirs config_dirs data_dirs e f h = rw (e, f, h) refl
 
-pub user_path_is : (variables : Variables) (config share : List ℕ) (path : List (List ℕ))
+pub user_path_is : (variables : Variables) (config share : List ℕ) (search_path : List (List ℕ))
     → Some config ≡ own_directory variables.config_home variables.home (codes "/.config")
     → Some share ≡ own_directory variables.data_home variables.home (codes "/.local/share")
-    → path ≡ each_once (user_folders (directories_of config share variables)) → Some path ≡ user_path variables
+    → search_path ≡ each_once (user_folders (directories_of config share variables)) → Some search_path ≡ user_path variables
 unfolding user_path
-user_path_is variables config share path e f h = rw (← e, ← f, h) refl
+user_path_is variables config share search_path e f h = rw (← e, ← f, h) refl
 
 pub user_path_none : (variables : Variables) (config : List ℕ)
     → Some config ≡ own_directory variables.config_home variables.home (codes "/.config")

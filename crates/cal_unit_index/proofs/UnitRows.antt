@@ -41,8 +41,8 @@ machine etc lib =
       variable = λ name. Ok None;
     }
 
-abbrev path : List (List ℕ)
-path = codes "/etc" ∷ codes "/lib" ∷ []
+abbrev search_path : List (List ℕ)
+search_path = codes "/etc" ∷ codes "/lib" ∷ []
 
 -- ## Plain names
 
@@ -57,7 +57,7 @@ plain =
 -- The folder `/etc/a.timer` isn't a file of `a`. `b`, `c` and `r` are aliases of `a`, and the link of `r` has a target
 -- that begins with `..`. `l` and `m` are linked to files outside the search path, whose names don't matter. `n` is an
 -- alias of a unit that doesn't exist. `.h` is hidden.
-plain_units : map (unit_on plain path) (codes "a" ∷ codes "b" ∷ codes "c" ∷ codes "r" ∷ codes "l" ∷ codes "m" ∷ codes "n" ∷ codes "e" ∷ codes "d" ∷ codes "x" ∷ codes ".h" ∷ [])
+plain_units : map (unit_on plain search_path) (codes "a" ∷ codes "b" ∷ codes "c" ∷ codes "r" ∷ codes "l" ∷ codes "m" ∷ codes "n" ∷ codes "e" ∷ codes "d" ∷ codes "x" ∷ codes ".h" ∷ [])
     ≡ FoundAt (codes "/lib/a.timer") (codes "a") (codes "a") ∷ FoundAt (codes "/lib/a.timer") (codes "a") (codes "a")
     ∷ FoundAt (codes "/lib/a.timer") (codes "a") (codes "a") ∷ FoundAt (codes "/lib/a.timer") (codes "a") (codes "a")
     ∷ FoundAt (codes "/etc/l.timer") (codes "l") (codes "l") ∷ FoundAt (codes "/etc/m.timer") (codes "m") (codes "m")
@@ -66,12 +66,12 @@ unfolding walk after_prefix template_of listed_stem file_stem unit_stem without_
 plain_units = refl
 
 -- the names of the unit `a` are the same whichever of them is asked for
-plain_names : map (names_for plain path) (codes "a" ∷ codes "c" ∷ codes "l" ∷ codes "n" ∷ [])
+plain_names : map (names_for plain search_path) (codes "a" ∷ codes "c" ∷ codes "l" ∷ codes "n" ∷ [])
     ≡ (codes "a" ∷ codes "b" ∷ codes "c" ∷ codes "r" ∷ []) ∷ (codes "a" ∷ codes "b" ∷ codes "c" ∷ codes "r" ∷ []) ∷ (codes "l" ∷ []) ∷ [] ∷ []
 unfolding walk after_prefix template_of listed_stem file_stem unit_stem without_suffix is_stem unit_kind_of instance_of
 plain_names = refl
 
-all_stems : unit_stems_in plain path
+all_stems : unit_stems_in plain search_path
     ≡ codes "a" ∷ codes "b" ∷ codes "c" ∷ codes "e" ∷ codes "l" ∷ codes "m" ∷ codes "n" ∷ codes "r" ∷ []
 unfolding walk after_prefix template_of listed_stem file_stem unit_stem without_suffix is_stem unit_kind_of instance_of
 all_stems = refl
@@ -89,7 +89,7 @@ rejected =
 
 -- None of the links in `/etc` can be an alias: they lead to the unit itself, to a unit of another type, to another kind
 -- of name, to another instance, or to something that isn't the name of a unit. So the files in `/lib` count.
-rejected_links : map (destination_in rejected path) (codes "a" ∷ codes "s" ∷ codes "p" ∷ codes "i" ∷ codes "t@" ∷ codes "u@" ∷ codes "t@x" ∷ codes "t@y" ∷ codes "v" ∷ [])
+rejected_links : map (destination_in rejected search_path) (codes "a" ∷ codes "s" ∷ codes "p" ∷ codes "i" ∷ codes "t@" ∷ codes "u@" ∷ codes "t@x" ∷ codes "t@y" ∷ codes "v" ∷ [])
     ≡ Some (FileAt (codes "/lib/a.timer")) ∷ Some (FileAt (codes "/lib/s.timer")) ∷ Some (FileAt (codes "/lib/p.timer")) ∷ Some (FileAt (codes "/lib/i.timer"))
     ∷ Some (FileAt (codes "/lib/t@.timer")) ∷ Some (FileAt (codes "/lib/u@.timer")) ∷ Some (FileAt (codes "/lib/t@x.timer")) ∷ Some (FileAt (codes "/lib/t@y.timer"))
     ∷ Some (FileAt (codes "/lib/v.timer")) ∷ []
@@ -107,7 +107,7 @@ templates =
 
 -- Instances without a file of their own have the file of their template; `foo@w` and `bar@z` have their own. `al@x` is
 -- an alias of an instance by a link to its template, and `el@y` by a link to an instance that has no file.
-instances : map (unit_on templates path) (codes "foo@" ∷ codes "foo@x" ∷ codes "bar@x" ∷ codes "al@x" ∷ codes "el@y" ∷ codes "foo@w" ∷ codes "bar@z" ∷ codes "al@z" ∷ [])
+instances : map (unit_on templates search_path) (codes "foo@" ∷ codes "foo@x" ∷ codes "bar@x" ∷ codes "al@x" ∷ codes "el@y" ∷ codes "foo@w" ∷ codes "bar@z" ∷ codes "al@z" ∷ [])
     ≡ TemplateOnly ∷ FoundAt (codes "/lib/foo@.timer") (codes "foo@") (codes "foo@x") ∷ FoundAt (codes "/lib/foo@.timer") (codes "foo@") (codes "foo@x")
     ∷ FoundAt (codes "/lib/foo@.timer") (codes "foo@") (codes "foo@x") ∷ FoundAt (codes "/lib/foo@.timer") (codes "foo@") (codes "foo@y")
     ∷ FoundAt (codes "/lib/foo@w.timer") (codes "foo@w") (codes "foo@w") ∷ FoundAt (codes "/etc/bar@z.timer") (codes "bar@z") (codes "bar@z") ∷ Unfound ∷ []
@@ -117,7 +117,7 @@ instances = refl
 -- The names of an instance are the same whichever of them is asked for. `al@x` is a name of `foo@x` only, and `el@y` of
 -- `foo@y` only. `bar@w` isn't a name of `foo@w`, because `foo@w` has a file of its own, and `bar@z` isn't a name of
 -- `foo@z`, because `bar@z` has a file of its own.
-instance_names : map (names_for templates path) (codes "bar@x" ∷ codes "foo@x" ∷ codes "el@y" ∷ codes "foo@w" ∷ codes "foo@z" ∷ codes "bar@z" ∷ [])
+instance_names : map (names_for templates search_path) (codes "bar@x" ∷ codes "foo@x" ∷ codes "el@y" ∷ codes "foo@w" ∷ codes "foo@z" ∷ codes "bar@z" ∷ [])
     ≡ (codes "foo@x" ∷ codes "al@x" ∷ codes "bar@x" ∷ []) ∷ (codes "foo@x" ∷ codes "al@x" ∷ codes "bar@x" ∷ [])
     ∷ (codes "foo@y" ∷ codes "bar@y" ∷ codes "el@y" ∷ []) ∷ (codes "foo@w" ∷ []) ∷ (codes "foo@z" ∷ []) ∷ (codes "bar@z" ∷ []) ∷ []
 unfolding walk after_prefix template_of listed_stem file_stem unit_stem without_suffix is_stem unit_kind_of instance_of
@@ -133,7 +133,7 @@ chain =
     ((codes "i.timer", File) ∷ [])
 
 -- from `b`, a chain of 7 links leads to a file; from `a`, the chain has 8 links, which is one too many
-links : map (unit_on chain path) (codes "b" ∷ codes "a" ∷ []) ≡ FoundAt (codes "/lib/i.timer") (codes "i") (codes "i") ∷ TooManyAliases ∷ []
+links : map (unit_on chain search_path) (codes "b" ∷ codes "a" ∷ []) ≡ FoundAt (codes "/lib/i.timer") (codes "i") (codes "i") ∷ TooManyAliases ∷ []
 unfolding walk after_prefix template_of listed_stem file_stem unit_stem without_suffix is_stem unit_kind_of instance_of
 links = refl
 
@@ -150,11 +150,11 @@ unreadable =
       variable = found.variable;
     }
 
-faults : unreadable_in unreadable path ≡ unreadable_fault (codes "/etc") Failed ∷ unreadable_fault (codes "/lib/b.timer") Failed ∷ []
+faults : unreadable_in unreadable search_path ≡ unreadable_fault (codes "/etc") Failed ∷ unreadable_fault (codes "/lib/b.timer") Failed ∷ []
 unfolding walk after_prefix template_of listed_stem file_stem unit_stem without_suffix is_stem unit_kind_of instance_of
 faults = refl
 
 -- units whose files can be read are still found
-others : map (unit_on unreadable path) (codes "a" ∷ codes "b" ∷ []) ≡ FoundAt (codes "/lib/a.timer") (codes "a") (codes "a") ∷ Unfound ∷ []
+others : map (unit_on unreadable search_path) (codes "a" ∷ codes "b" ∷ []) ≡ FoundAt (codes "/lib/a.timer") (codes "a") (codes "a") ∷ Unfound ∷ []
 unfolding walk after_prefix template_of listed_stem file_stem unit_stem without_suffix is_stem unit_kind_of instance_of
 others = refl

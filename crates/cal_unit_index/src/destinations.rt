@@ -29,24 +29,24 @@ pub(crate) enum Destination {
 pub(crate) fn find_destination<T: Tree>(
     alloc: Global,
     tree: &mut T,
-    path: &[String],
+    search_path: &[String],
     folder: &str,
     stem: &str,
 ) -> Result<Option<Destination>, TreeFault>
     ensures known { (machine : Machine) → T.shows tree.new machine
-        → Tells (option_map shown_destination) result (destination_at_path machine (map string_bytes path.now) folder.now stem.now) }
+        → Tells (option_map shown_destination) result (destination_at_path machine (map string_bytes search_path.now) folder.now stem.now) }
     ensures grows { (machine : Machine) → T.shows tree.new machine → T.shows tree.old machine }
 {
     let file = unit_path(alloc, folder, stem)?;
     let entry = look_at(alloc, tree, file.as_str())?;
-    destination_of_entry(alloc, tree, path, folder, stem, file, entry)
+    destination_of_entry(alloc, tree, search_path, folder, stem, file, entry)
 }
 
 /// Returns where a stem leads, given what is at `file`, its path in this folder.
 fn destination_of_entry<T: Tree>(
     alloc: Global,
     tree: &mut T,
-    path: &[String],
+    search_path: &[String],
     folder: &str,
     stem: &str,
     file: String,
@@ -54,7 +54,7 @@ fn destination_of_entry<T: Tree>(
 ) -> Result<Option<Destination>, TreeFault>
     ensures known { (machine : Machine) → T.shows tree.new machine
         → Tells (option_map shown_destination) result
-        (destination_of_entry machine (map string_bytes path.now) folder.now stem.now (string_bytes file) (shown_entry entry)) }
+        (destination_of_entry machine (map string_bytes search_path.now) folder.now stem.now (string_bytes file) (shown_entry entry)) }
     ensures grows { (machine : Machine) → T.shows tree.new machine → T.shows tree.old machine }
 {
     match entry {
@@ -63,7 +63,7 @@ fn destination_of_entry<T: Tree>(
         Entry::Link(target) => {
             let target = target_path(alloc, folder, target.as_str())?;
             let place = find_place(alloc, tree, target.as_str(), Last::Kept)?;
-            Ok(destination_of_link(alloc, path, stem, file, place.path.as_str())?)
+            Ok(destination_of_link(alloc, search_path, stem, file, place.path.as_str())?)
         }
     }
 }
@@ -71,15 +71,15 @@ fn destination_of_entry<T: Tree>(
 /// Returns where a link with this stem and the path `file` leads, if it leads to `place`.
 fn destination_of_link(
     alloc: Global,
-    path: &[String],
+    search_path: &[String],
     stem: &str,
     file: String,
     place: &str,
 ) -> Result<Option<Destination>, AllocError>
     ensures { IfOk result (λ destination. option_map shown_destination destination
-        ≡ destination_of_link (map string_bytes path.now) stem.now (string_bytes file) place.now) }
+        ≡ destination_of_link (map string_bytes search_path.now) stem.now (string_bytes file) place.now) }
 {
-    if !is_in_path(path, place) {
+    if !is_in_path(search_path, place) {
         return Ok(Some(Destination::File(file)));
     }
     match alias_of(alloc, stem, place)? {
@@ -89,10 +89,10 @@ fn destination_of_link(
 }
 
 /// Returns whether a place is in a folder of the search path, or below one.
-fn is_in_path(path: &[String], place: &str) -> bool
-    ensures { result ≡ list_any (is_below place.now) (map string_bytes path.now) }
+fn is_in_path(search_path: &[String], place: &str) -> bool
+    ensures { result ≡ list_any (is_below place.now) (map string_bytes search_path.now) }
 {
-    for folder in path {
+    for folder in search_path {
         if is_below(place, folder.as_str()) {
             return true;
         }

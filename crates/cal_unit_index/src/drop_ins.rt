@@ -38,12 +38,12 @@ pub fn find_drop_ins<T: Tree>(
     unit_type: UnitType,
     names: &[String],
 ) -> Result<DropIns, AllocError>
-    ensures known { IfOk result (λ found. (machine : Machine) (path : List (List ℕ)) → T.shows tree.new machine
-        → IsIndexOf machine path index.now
-        → map string_bytes found.paths.items ≡ drop_ins machine path unit_type (map string_bytes names.now)) }
-    ensures unread { IfOk result (λ found. (machine : Machine) (path : List (List ℕ)) → T.shows tree.new machine
-        → IsIndexOf machine path index.now
-        → map shown_fault found.unread.items ≡ unread_folders machine path unit_type (map string_bytes names.now)) }
+    ensures known { IfOk result (λ found. (machine : Machine) (search_path : List (List ℕ)) → T.shows tree.new machine
+        → IsIndexOf machine search_path index.now
+        → map string_bytes found.paths.items ≡ drop_ins machine search_path unit_type (map string_bytes names.now)) }
+    ensures unread { IfOk result (λ found. (machine : Machine) (search_path : List (List ℕ)) → T.shows tree.new machine
+        → IsIndexOf machine search_path index.now
+        → map shown_fault found.unread.items ≡ unread_folders machine search_path unit_type (map string_bytes names.now)) }
     ensures grows { (machine : Machine) → T.shows tree.new machine → T.shows tree.old machine }
 {
     find_below(alloc, tree, index.folders(), unit_type, names)
@@ -54,17 +54,17 @@ pub fn find_drop_ins<T: Tree>(
 fn find_below<T: Tree>(
     alloc: Global,
     tree: &mut T,
-    path: &[SearchFolder],
+    search_path: &[SearchFolder],
     unit_type: UnitType,
     names: &[String],
 ) -> Result<DropIns, AllocError>
-    ensures known { IfOk result (λ found. (machine : Machine) → T.shows tree.new machine → All (IsListing machine) path.now
-        → map string_bytes found.paths.items ≡ drop_ins machine (map path_of path.now) unit_type (map string_bytes names.now)) }
-    ensures unread { IfOk result (λ found. (machine : Machine) → T.shows tree.new machine → All (IsListing machine) path.now
-        → map shown_fault found.unread.items ≡ unread_folders machine (map path_of path.now) unit_type (map string_bytes names.now)) }
+    ensures known { IfOk result (λ found. (machine : Machine) → T.shows tree.new machine → All (IsListing machine) search_path.now
+        → map string_bytes found.paths.items ≡ drop_ins machine (map path_of search_path.now) unit_type (map string_bytes names.now)) }
+    ensures unread { IfOk result (λ found. (machine : Machine) → T.shows tree.new machine → All (IsListing machine) search_path.now
+        → map shown_fault found.unread.items ≡ unread_folders machine (map path_of search_path.now) unit_type (map string_bytes names.now)) }
     ensures grows { (machine : Machine) → T.shows tree.new machine → T.shows tree.old machine }
 {
-    let folders = folders_of(alloc, tree, path, unit_type, names)?;
+    let folders = folders_of(alloc, tree, search_path, unit_type, names)?;
     let mut found = Vec::new(alloc);
     let mut unread = Vec::new(alloc);
     push_all(alloc, tree, folders.as_slice(), &mut found, &mut unread)?;

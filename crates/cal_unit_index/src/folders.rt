@@ -15,21 +15,21 @@ use std::alloc::{AllocError, Global};
 
 /// Returns the drop-in folders that are read for a unit of this type, from the least important to the most important.
 ///
-/// `path` has the folders of the search path, the most important first, and `stems` the stems of all names of the unit,
-/// its own first. Fails only if allocation fails.
+/// `search_path` has the most important folder first, and `stems` has the stems of all names of the unit, its own first.
+/// Fails only if allocation fails.
 pub(crate) fn folders_of<T: Tree>(
     alloc: Global,
     tree: &mut T,
-    path: &[SearchFolder],
+    search_path: &[SearchFolder],
     unit_type: UnitType,
     stems: &[String],
 ) -> Result<Vec<String>, AllocError>
     ensures known { IfOk result (λ found. (machine : Machine) → T.shows tree.new machine
-        → All (IsListing machine) path.now → map string_bytes found.items
-        ≡ folders machine (reverse (map path_of path.now)) unit_type (reverse (map string_bytes stems.now))) }
+        → All (IsListing machine) search_path.now → map string_bytes found.items
+        ≡ folders machine (reverse (map path_of search_path.now)) unit_type (reverse (map string_bytes stems.now))) }
     ensures grows { (machine : Machine) → T.shows tree.new machine → T.shows tree.old machine }
 {
-    let roots = reversed(alloc, path)?;
+    let roots = reversed(alloc, search_path)?;
     let mut folders = type_folders(alloc, tree, roots.as_slice(), unit_type)?;
     let stems = reversed(alloc, stems)?;
     push_all_folders(

@@ -48,13 +48,13 @@ impl UnitIndex {
     pub fn read<T: Tree>(
         alloc: Global,
         tree: &mut T,
-        path: &[String],
+        search_path: &[String],
     ) -> Result<UnitIndex, AllocError>
         ensures known { IfOk result (λ index. (machine : Machine) → T.shows tree.new machine
-            → IsIndexOf machine (map string_bytes path.now) index) }
+            → IsIndexOf machine (map string_bytes search_path.now) index) }
         ensures grows { (machine : Machine) → T.shows tree.new machine → T.shows tree.old machine }
     {
-        let mut index = read_folders(alloc, tree, path)?;
+        let mut index = read_folders(alloc, tree, search_path)?;
         index.aliases = find_aliases(alloc, &index)?;
         Ok(index)
     }
@@ -64,8 +64,8 @@ impl UnitIndex {
     ///
     /// Fails only if allocation fails.
     pub fn unit_names(&self, alloc: Global) -> Result<BTreeSet<String>, AllocError>
-        ensures known { IfOk result (λ names. (machine : Machine) (path : List (List ℕ)) → IsIndexOf machine path self.now
-            → map string_bytes names.keys ≡ unit_stems_in machine path) }
+        ensures known { IfOk result (λ names. (machine : Machine) (search_path : List (List ℕ)) → IsIndexOf machine search_path self.now
+            → map string_bytes names.keys ≡ unit_stems_in machine search_path) }
     {
         find_unit_names(alloc, self)
     }
@@ -97,10 +97,10 @@ impl UnitIndex {
 fn read_folders<T: Tree>(
     alloc: Global,
     tree: &mut T,
-    path: &[String],
+    search_path: &[String],
 ) -> Result<UnitIndex, AllocError>
     ensures known { IfOk result (λ index. (machine : Machine) → T.shows tree.new machine
-        → IsIndexUpTo machine (map string_bytes path.now) (map string_bytes path.now) index) }
+        → IsIndexUpTo machine (map string_bytes search_path.now) (map string_bytes search_path.now) index) }
     ensures grows { (machine : Machine) → T.shows tree.new machine → T.shows tree.old machine }
 {
     let mut index = UnitIndex {
@@ -109,8 +109,8 @@ fn read_folders<T: Tree>(
         aliases: Vec::new(alloc),
         unreadable: Vec::new(alloc),
     };
-    for folder in path {
-        read_folder(alloc, tree, path, folder.as_str(), &mut index)?;
+    for folder in search_path {
+        read_folder(alloc, tree, search_path, folder.as_str(), &mut index)?;
     }
     Ok(index)
 }

@@ -33,8 +33,8 @@ pub fn names_of(
     file: &UnitFile,
     asked: &str,
 ) -> Result<Vec<String>, AllocError>
-    ensures known { IfOk result (λ names. (machine : Machine) (path : List (List ℕ)) → IsIndexOf machine path index.now
-        → map string_bytes names.items ≡ names_on machine path (string_bytes file.now.file) (string_bytes file.now.stem) asked.now) }
+    ensures known { IfOk result (λ names. (machine : Machine) (search_path : List (List ℕ)) → IsIndexOf machine search_path index.now
+        → map string_bytes names.items ≡ names_on machine search_path (string_bytes file.now.file) (string_bytes file.now.stem) asked.now) }
 {
     indexed_names(alloc, index, file, asked)
 }

@@ -17,11 +17,11 @@ pub(crate) fn paths_in(alloc: Global, list: &str) -> Result<Vec<&str>, AllocErro
         .collect(alloc)
 }
 
-pub(crate) fn all_texts(alloc: Global, path: &[String]) -> Result<Vec<&str>, AllocError>
-    ensures { IfOk result (λ texts. map (λ text. text.now) texts.items ≡ map string_bytes path.now) }
+pub(crate) fn all_texts(alloc: Global, search_path: &[String]) -> Result<Vec<&str>, AllocError>
+    ensures { IfOk result (λ texts. map (λ text. text.now) texts.items ≡ map string_bytes search_path.now) }
 {
     let mut texts = Vec::new(alloc);
-    for text in path {
+    for text in search_path {
         texts.push(text.as_str())?;
     }
     Ok(texts)
@@ -30,29 +30,29 @@ pub(crate) fn all_texts(alloc: Global, path: &[String]) -> Result<Vec<&str>, All
 /// Returns the plain paths of the folders ([`plain_path`]) without duplicates, each at its first position.
 #[tactic(auto, unfolding(crate::specs::rules::SearchPath::each_once))]
 pub(crate) fn each_once(alloc: Global, folders: &[&str]) -> Result<Vec<String>, AllocError>
-    ensures { IfOk result (λ path. map string_bytes path.items ≡ each_once (map (λ folder. folder.now) folders.now)) }
+    ensures { IfOk result (λ search_path. map string_bytes search_path.items ≡ each_once (map (λ folder. folder.now) folders.now)) }
 {
-    let mut path = Vec::new(alloc);
+    let mut search_path = Vec::new(alloc);
     for folder in folders {
-        push_once(&mut path, plain_path(alloc, folder)?)?;
+        push_once(&mut search_path, plain_path(alloc, folder)?)?;
     }
-    Ok(path)
+    Ok(search_path)
 }
 
 /// Appends the folder to a search path, unless the search path has it already.
-fn push_once(path: &mut Vec<String>, folder: String) -> Result<(), AllocError>
-    ensures { OnOk result (map string_bytes path.new.items ≡ with_folder (map string_bytes path.old.items) (string_bytes folder)) }
+fn push_once(search_path: &mut Vec<String>, folder: String) -> Result<(), AllocError>
+    ensures { OnOk result (map string_bytes search_path.new.items ≡ with_folder (map string_bytes search_path.old.items) (string_bytes folder)) }
 {
-    if !has_folder(path.as_slice(), folder.as_str()) {
-        path.push(folder)?;
+    if !has_folder(search_path.as_slice(), folder.as_str()) {
+        search_path.push(folder)?;
     }
     Ok(())
 }
 
-fn has_folder(path: &[String], folder: &str) -> bool
-    ensures { result ≡ list_any (bytes_eq folder.now) (map string_bytes path.now) }
+fn has_folder(search_path: &[String], folder: &str) -> bool
+    ensures { result ≡ list_any (bytes_eq folder.now) (map string_bytes search_path.now) }
 {
-    path.iter().any(|known| folder == known.as_str())
+    search_path.iter().any(|known| folder == known.as_str())
 }
 
 /// Returns the path with one slash before each part, without parts that are empty or `.`, or `/` if no part is left. A

@@ -21,17 +21,17 @@ use std::collections::{BTreeMap, BTreeSet};
 pub(crate) fn read_folder<T: Tree>(
     alloc: Global,
     tree: &mut T,
-    path: &[String],
+    search_path: &[String],
     folder: &str,
     index: &mut UnitIndex,
 ) -> Result<(), AllocError>
     ensures known { OnOk result ((machine : Machine) (done : List (List ℕ)) → T.shows tree.new machine
-        → IsIndexUpTo machine (map string_bytes path.now) done index.old
-        → IsIndexUpTo machine (map string_bytes path.now) (done ++ folder.now ∷ []) index.new) }
+        → IsIndexUpTo machine (map string_bytes search_path.now) done index.old
+        → IsIndexUpTo machine (map string_bytes search_path.now) (done ++ folder.now ∷ []) index.new) }
     ensures grows { (machine : Machine) → T.shows tree.new machine → T.shows tree.old machine }
 {
     let names = list_folder(alloc, tree, folder, &mut index.unreadable)?;
-    read_names(alloc, tree, path, folder, &names, index)?;
+    read_names(alloc, tree, search_path, folder, &names, index)?;
     index.folders.push(SearchFolder {
         path: String::from_str(alloc, folder)?,
         names,
@@ -79,34 +79,34 @@ fn push_unreadable(
 fn read_names<T: Tree>(
     alloc: Global,
     tree: &mut T,
-    path: &[String],
+    search_path: &[String],
     folder: &str,
     names: &BTreeSet<String>,
     index: &mut UnitIndex,
 ) -> Result<(), AllocError>
     ensures known { OnOk result ((machine : Machine) → T.shows tree.new machine
-        → HasStems machine (map string_bytes path.now) folder.now (stems_of (map string_bytes names.now.keys)) index.old index.new) }
+        → HasStems machine (map string_bytes search_path.now) folder.now (stems_of (map string_bytes names.now.keys)) index.old index.new) }
     ensures grows { (machine : Machine) → T.shows tree.new machine → T.shows tree.old machine }
 {
     let stems = timer_stems(alloc, names)?;
-    read_stems(alloc, tree, path, folder, stems.as_slice(), index)
+    read_stems(alloc, tree, search_path, folder, stems.as_slice(), index)
 }
 
 /// Enters in the index where the timers with these stems lead according to a folder.
 fn read_stems<T: Tree>(
     alloc: Global,
     tree: &mut T,
-    path: &[String],
+    search_path: &[String],
     folder: &str,
     stems: &[&str],
     index: &mut UnitIndex,
 ) -> Result<(), AllocError>
     ensures known { OnOk result ((machine : Machine) → T.shows tree.new machine
-        → HasStems machine (map string_bytes path.now) folder.now (map (λ stem. stem.now) stems.now) index.old index.new) }
+        → HasStems machine (map string_bytes search_path.now) folder.now (map (λ stem. stem.now) stems.now) index.old index.new) }
     ensures grows { (machine : Machine) → T.shows tree.new machine → T.shows tree.old machine }
 {
     for stem in stems {
-        read_stem(alloc, tree, path, folder, stem, index)?;
+        read_stem(alloc, tree, search_path, folder, stem, index)?;
     }
     Ok(())
 }
@@ -116,16 +116,16 @@ fn read_stems<T: Tree>(
 fn read_stem<T: Tree>(
     alloc: Global,
     tree: &mut T,
-    path: &[String],
+    search_path: &[String],
     folder: &str,
     stem: &str,
     index: &mut UnitIndex,
 ) -> Result<(), AllocError>
     ensures known { OnOk result ((machine : Machine) → T.shows tree.new machine
-        → HasStems machine (map string_bytes path.now) folder.now (stem.now ∷ []) index.old index.new) }
+        → HasStems machine (map string_bytes search_path.now) folder.now (stem.now ∷ []) index.old index.new) }
     ensures grows { (machine : Machine) → T.shows tree.new machine → T.shows tree.old machine }
 {
-    match find_destination(alloc, tree, path, folder, stem) {
+    match find_destination(alloc, tree, search_path, folder, stem) {
         Ok(Some(destination)) => enter(alloc, &mut index.destinations, stem, destination),
         Ok(None) => Ok(()),
         Err(TreeFault::Unreadable(why)) => {

@@ -43,7 +43,7 @@ struct Directories<'a> {
 
 /// Returns the search path of the system's manager.
 pub fn system_path(alloc: Global) -> Result<Vec<String>, AllocError>
-    ensures { IfOk result (λ path. map string_bytes path.items ≡ system_folders) }
+    ensures { IfOk result (λ search_path. map string_bytes search_path.items ≡ system_folders) }
 {
     let folders = [
         "/etc/systemd/system.control",
@@ -70,7 +70,7 @@ pub fn user_path(
     alloc: Global,
     variables: &UserVariables<'_>,
 ) -> Result<Option<Vec<String>>, AllocError>
-    ensures { IfOk result (λ path. option_map (λ path. map string_bytes path.items) path ≡ user_path (shown_variables variables.now)) }
+    ensures { IfOk result (λ search_path. option_map (λ search_path. map string_bytes search_path.items) search_path ≡ user_path (shown_variables variables.now)) }
 {
     let home = variables.home;
     let Some(config_home) = own_directory(alloc, variables.config_home, home, "/.config")? else {
@@ -79,15 +79,15 @@ pub fn user_path(
     let Some(data_home) = own_directory(alloc, variables.data_home, home, "/.local/share")? else {
         return Ok(None);
     };
-    let path = path_in(alloc, config_home.as_str(), data_home.as_str(), variables)?;
-    Ok(Some(path))
+    let search_path = path_in(alloc, config_home.as_str(), data_home.as_str(), variables)?;
+    Ok(Some(search_path))
 }
 
 /// Returns the search path of a manager if the variable `SYSTEMD_UNIT_PATH` has this value: the paths in the value and,
 /// if the value ends with a colon, the folders of `usual`, the manager's usual search path.
 #[tactic(auto, unfolding(crate::specs::rules::SearchPath::given_path))]
 pub fn given_path(alloc: Global, value: &str, usual: &[String]) -> Result<Vec<String>, AllocError>
-    ensures { IfOk result (λ path. map string_bytes path.items ≡ given_path value.now (map string_bytes usual.now)) }
+    ensures { IfOk result (λ search_path. map string_bytes search_path.items ≡ given_path value.now (map string_bytes usual.now)) }
 {
     let folders = given_folders(alloc, value, usual)?;
     each_once(alloc, folders.as_slice())
@@ -136,7 +136,7 @@ fn path_in(
     data_home: &str,
     variables: &UserVariables<'_>,
 ) -> Result<Vec<String>, AllocError>
-    ensures { IfOk result (λ path. map string_bytes path.items
+    ensures { IfOk result (λ search_path. map string_bytes search_path.items
         ≡ each_once (user_folders (directories_of config_home.now data_home.now (shown_variables variables.now)))) }
 {
     let runtime_dirs = listed(alloc, variables.runtime_dir)?;

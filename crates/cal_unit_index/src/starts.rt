@@ -53,12 +53,12 @@ pub fn find_started<T: Tree>(
     tree: &mut T,
     index: &UnitIndex,
 ) -> Result<Started, AllocError>
-    ensures known { IfOk result (λ started. (machine : Machine) (path : List (List ℕ)) → T.shows tree.new machine
-        → IsIndexOf machine path index.now
-        → map string_bytes started.stems.keys ≡ started_in machine path) }
-    ensures unreadable { IfOk result (λ started. (machine : Machine) (path : List (List ℕ)) → T.shows tree.new machine
-        → IsIndexOf machine path index.now
-        → map shown_fault started.unreadable.items ≡ unreadable_wants machine path) }
+    ensures known { IfOk result (λ started. (machine : Machine) (search_path : List (List ℕ)) → T.shows tree.new machine
+        → IsIndexOf machine search_path index.now
+        → map string_bytes started.stems.keys ≡ started_in machine search_path) }
+    ensures unreadable { IfOk result (λ started. (machine : Machine) (search_path : List (List ℕ)) → T.shows tree.new machine
+        → IsIndexOf machine search_path index.now
+        → map shown_fault started.unreadable.items ≡ unreadable_wants machine search_path) }
     ensures grows { (machine : Machine) → T.shows tree.new machine → T.shows tree.old machine }
 {
     find_below(alloc, tree, index.folders())
@@ -68,18 +68,18 @@ pub fn find_started<T: Tree>(
 fn find_below<T: Tree>(
     alloc: Global,
     tree: &mut T,
-    path: &[SearchFolder],
+    search_path: &[SearchFolder],
 ) -> Result<Started, AllocError>
-    ensures known { IfOk result (λ started. (machine : Machine) → T.shows tree.new machine → All (IsListing machine) path.now
-        → map string_bytes started.stems.keys ≡ started_in machine (map path_of path.now)) }
-    ensures unreadable { IfOk result (λ started. (machine : Machine) → T.shows tree.new machine → All (IsListing machine) path.now
-        → map shown_fault started.unreadable.items ≡ unreadable_wants machine (map path_of path.now)) }
+    ensures known { IfOk result (λ started. (machine : Machine) → T.shows tree.new machine → All (IsListing machine) search_path.now
+        → map string_bytes started.stems.keys ≡ started_in machine (map path_of search_path.now)) }
+    ensures unreadable { IfOk result (λ started. (machine : Machine) → T.shows tree.new machine → All (IsListing machine) search_path.now
+        → map shown_fault started.unreadable.items ≡ unreadable_wants machine (map path_of search_path.now)) }
     ensures grows { (machine : Machine) → T.shows tree.new machine → T.shows tree.old machine }
 {
-    let roots = reversed(alloc, path)?;
+    let roots = reversed(alloc, search_path)?;
     let mut stems = BTreeSet::new(alloc);
     let mut unreadable = Vec::new(alloc);
-    for name in wants_names(alloc, path)? {
+    for name in wants_names(alloc, search_path)? {
         add_named(
             alloc,
             tree,
@@ -93,12 +93,12 @@ fn find_below<T: Tree>(
 }
 
 /// Returns the names of the wants folders in these folders of the search path.
-fn wants_names(alloc: Global, path: &[SearchFolder]) -> Result<BTreeSet<String>, AllocError>
+fn wants_names(alloc: Global, search_path: &[SearchFolder]) -> Result<BTreeSet<String>, AllocError>
     ensures { IfOk result (λ names. map string_bytes names.keys
-        ≡ sorted_once (flat_map (λ folder. filter is_wants_name (map string_bytes folder.names.keys)) path.now)) }
+        ≡ sorted_once (flat_map (λ folder. filter is_wants_name (map string_bytes folder.names.keys)) search_path.now)) }
 {
     let mut names = BTreeSet::new(alloc);
-    for folder in path {
+    for folder in search_path {
         add_wants_names(alloc, &mut names, folder)?;
     }
     Ok(names)

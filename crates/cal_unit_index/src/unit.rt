@@ -46,8 +46,8 @@ pub enum Unit {
 ///
 /// Fails only if allocation fails.
 pub fn find_unit(alloc: Global, index: &UnitIndex, stem: &str) -> Result<Unit, AllocError>
-    ensures known { IfOk result (λ unit. (machine : Machine) (path : List (List ℕ)) → IsIndexOf machine path index.now
-        → shown_unit unit ≡ unit_on machine path stem.now) }
+    ensures known { IfOk result (λ unit. (machine : Machine) (search_path : List (List ℕ)) → IsIndexOf machine search_path index.now
+        → shown_unit unit ≡ unit_on machine search_path stem.now) }
 {
     find_indexed_unit(alloc, index, stem)
 }

@@ -70,11 +70,10 @@ if_may_lead stem other = if may_lead stem other then Some other else None
 abbrev pub alias_of : List ℕ → List ℕ → Option (List ℕ)
 alias_of stem place = option_and_then (if_may_lead stem) (file_stem (last_part place))
 
--- the destination of a stem whose file, at the path `file`, is a link that leads to the path `place`; `path` is the
--- search path
+-- the destination of a stem whose file, at the path `file`, is a link that leads to the path `place`
 abbrev pub destination_of_link : List (List ℕ) → List ℕ → List ℕ → List ℕ → Option Destination
-destination_of_link path stem file place =
-    if list_any (is_below place) path then option_map AliasOf (alias_of stem place) else Some (FileAt file)
+destination_of_link search_path stem file place =
+    if list_any (is_below place) search_path then option_map AliasOf (alias_of stem place) else Some (FileAt file)
 
 -- the path to which a link's target leads, if the link is in this folder
 abbrev pub target_path : List ℕ → List ℕ → List ℕ
@@ -88,13 +87,13 @@ unit_path folder stem = folder ++ codes "/" ++ stem ++ codes ".timer"
 -- where a stem leads, given what is at `file`, the stem's path in this folder: nowhere (`None`) if nothing, a device or
 -- a folder is there
 abbrev pub destination_of_entry : Machine → List (List ℕ) → List ℕ → List ℕ → List ℕ → Entry → Result (Option Destination) Unreadable
-destination_of_entry machine path folder stem file Missing = Ok None
-destination_of_entry machine path folder stem file Empty = Ok (Some (FileAt file))
-destination_of_entry machine path folder stem file File = Ok (Some (FileAt file))
-destination_of_entry machine path folder stem file Device = Ok None
-destination_of_entry machine path folder stem file Folder = Ok None
-destination_of_entry machine path folder stem file (Link target) =
-    seen (λ place. destination_of_link path stem file place.path) (place_of machine Kept (target_path folder target))
+destination_of_entry machine search_path folder stem file Missing = Ok None
+destination_of_entry machine search_path folder stem file Empty = Ok (Some (FileAt file))
+destination_of_entry machine search_path folder stem file File = Ok (Some (FileAt file))
+destination_of_entry machine search_path folder stem file Device = Ok None
+destination_of_entry machine search_path folder stem file Folder = Ok None
+destination_of_entry machine search_path folder stem file (Link target) =
+    seen (λ place. destination_of_link search_path stem file place.path) (place_of machine Kept (target_path folder target))
 
 abbrev pub if_read : {X Y : Type 0} → (X → Result Y Unreadable) → Result X Unreadable → Result Y Unreadable
 if_read what (Ok found) = what found
@@ -102,8 +101,8 @@ if_read what (Err why) = Err why
 
 -- where a stem leads according to this folder, given what the machine has at the stem's path in the folder
 abbrev pub destination_at_path : Machine → List (List ℕ) → List ℕ → List ℕ → Result (Option Destination) Unreadable
-destination_at_path machine path folder stem =
-    if_read (destination_of_entry machine path folder stem (unit_path folder stem)) (entry_at machine (unit_path folder stem))
+destination_at_path machine search_path folder stem =
+    if_read (destination_of_entry machine search_path folder stem (unit_path folder stem)) (entry_at machine (unit_path folder stem))
 
 abbrev pub unless_unreadable : Result (Option Destination) Unreadable → Option Destination
 unless_unreadable (Ok destination) = destination
@@ -112,20 +111,20 @@ unless_unreadable (Err why) = None
 -- where a stem leads according to this folder: nowhere if the stem isn't among `stems`, which are those of the folder,
 -- or if what is at the stem's path can't be read
 abbrev pub destination_by : Machine → List (List ℕ) → List ℕ → List (List ℕ) → List ℕ → Option Destination
-destination_by machine path folder stems stem =
-    if is_among stems stem then unless_unreadable (destination_at_path machine path folder stem) else None
+destination_by machine search_path folder stems stem =
+    if is_among stems stem then unless_unreadable (destination_at_path machine search_path folder stem) else None
 
 -- where a stem leads according to this folder of the search path
 abbrev pub destination_at : Machine → List (List ℕ) → List ℕ → List ℕ → Option Destination
-destination_at machine path stem folder = destination_by machine path folder (stems_of (listed machine folder)) stem
+destination_at machine search_path stem folder = destination_by machine search_path folder (stems_of (listed machine folder)) stem
 
 -- where a stem leads according to the first of these folders of the search path in which it leads anywhere
 abbrev pub destination_among : Machine → List (List ℕ) → List (List ℕ) → List ℕ → Option Destination
-destination_among machine path folders stem = slice_get (filter_map (destination_at machine path stem) folders) 0
+destination_among machine search_path folders stem = slice_get (filter_map (destination_at machine search_path stem) folders) 0
 
 -- where a stem leads on a machine with this search path
 abbrev pub destination_in : Machine → List (List ℕ) → List ℕ → Option Destination
-destination_in machine path stem = destination_among machine path path stem
+destination_in machine search_path stem = destination_among machine search_path search_path stem
 
 abbrev pub shown_destination : destinations.Destination → Destination
 shown_destination (destinations.TheVariants.File path) = FileAt (string_bytes path)

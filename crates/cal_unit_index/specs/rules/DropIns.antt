@@ -51,18 +51,18 @@ by_name found = fold enter [] found
 unfoldable pub chosen : List FolderFile → List (List ℕ)
 chosen found = map (λ entry. entry.1) (by_name found)
 
--- The drop-ins that count, in the order in which they are read. `path` has the folders of the search path, the most
--- important first, and `stems` has the stems of all names of the unit, its own first. A file in a more important folder
--- hides the files of the same name in less important folders.
+-- The drop-ins that count, in the order in which they are read. `search_path` has the most important folder first, and
+-- `stems` has the stems of all names of the unit, its own first. A file in a more important folder hides the files of
+-- the same name in less important folders.
 unfoldable pub drop_ins : Machine → List (List ℕ) → UnitType → List (List ℕ) → List (List ℕ)
-drop_ins machine path unit_type stems =
-    chosen (flat_map (candidates_in machine) (folders machine (reverse path) unit_type (reverse stems)))
+drop_ins machine search_path unit_type stems =
+    chosen (flat_map (candidates_in machine) (folders machine (reverse search_path) unit_type (reverse stems)))
 
 -- the drop-in folders of the unit that can't be read
 unfoldable pub unread_folders : Machine → List (List ℕ) → UnitType → List (List ℕ) → List Fault
-unread_folders machine path unit_type stems =
+unread_folders machine search_path unit_type stems =
     flat_map (λ folder. faults_of_listing folder (names_at machine folder))
-    (folders machine (reverse path) unit_type (reverse stems))
+    (folders machine (reverse search_path) unit_type (reverse stems))
 
 -- the struct `DropIn`, with its strings as lists of bytes
 abbrev pub shown_drop_in : DropIn → FolderFile

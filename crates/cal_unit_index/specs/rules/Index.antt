@@ -34,12 +34,12 @@ fault_if_unreadable path (Err why) = Some (unreadable_fault path why)
 -- the fault to report if it can't be determined where a stem leads, because the file at its path can't be read, or is a
 -- link that can't be followed
 abbrev pub fault_of_stem : Machine → List (List ℕ) → List ℕ → List ℕ → Option Fault
-fault_of_stem machine path folder stem =
-    fault_if_unreadable (unit_path folder stem) (destination_at_path machine path folder stem)
+fault_of_stem machine search_path folder stem =
+    fault_if_unreadable (unit_path folder stem) (destination_at_path machine search_path folder stem)
 
 -- the faults of the timers with these stems in a folder
 abbrev pub faults_of_stems : Machine → List (List ℕ) → List ℕ → List (List ℕ) → List Fault
-faults_of_stems machine path folder stems = filter_map (fault_of_stem machine path folder) stems
+faults_of_stems machine search_path folder stems = filter_map (fault_of_stem machine search_path folder) stems
 
 abbrev pub faults_of_listing : List ℕ → Result Listing Unreadable → List Fault
 faults_of_listing folder (Ok listing) = []
@@ -47,12 +47,12 @@ faults_of_listing folder (Err why) = unreadable_fault folder why ∷ []
 
 -- what can't be read in a folder of the search path: the folder itself, or else files of timers in it, sorted by name
 abbrev pub unreadable_at : Machine → List (List ℕ) → List ℕ → List Fault
-unreadable_at machine path folder =
-    faults_of_listing folder (names_at machine folder) ++ faults_of_stems machine path folder (stems_of (listed machine folder))
+unreadable_at machine search_path folder =
+    faults_of_listing folder (names_at machine folder) ++ faults_of_stems machine search_path folder (stems_of (listed machine folder))
 
 -- what can't be read in the folders of the search path
 abbrev pub unreadable_in : Machine → List (List ℕ) → List Fault
-unreadable_in machine path = flat_map (unreadable_at machine path) path
+unreadable_in machine search_path = flat_map (unreadable_at machine search_path) search_path
 
 -- ## Units
 
@@ -61,8 +61,8 @@ is_unit lookup stem = not (is_template stem) && is_some (lookup stem)
 
 -- the stems with a destination in the search path that aren't templates, sorted by their bytes, each once
 abbrev pub unit_stems_in : Machine → List (List ℕ) → List (List ℕ)
-unit_stems_in machine path =
-    sorted_once (flat_map (λ folder. filter (is_unit (destination_in machine path)) (stems_of (listed machine folder))) path)
+unit_stems_in machine search_path =
+    sorted_once (flat_map (λ folder. filter (is_unit (destination_in machine search_path)) (stems_of (listed machine folder))) search_path)
 
 -- ## The index
 
@@ -90,22 +90,22 @@ destination_of index stem = entered index.destinations stem
 
 -- `new` is the index `old`, to which the destinations and faults of these stems in a folder of the search path were
 -- added; a stem that had a destination keeps it
-pub record HasStems (machine : Machine) (path : List (List ℕ)) (folder : List ℕ) (stems : List (List ℕ)) (old new : UnitIndex) : Type 0 where
+pub record HasStems (machine : Machine) (search_path : List (List ℕ)) (folder : List ℕ) (stems : List (List ℕ)) (old new : UnitIndex) : Type 0 where
   pub destinations : (stem : List ℕ)
-      → destination_of new stem ≡ option_or (destination_of old stem) (destination_by machine path folder stems stem)
+      → destination_of new stem ≡ option_or (destination_of old stem) (destination_by machine search_path folder stems stem)
   pub unreadable : map shown_fault new.unreadable.items
-      ≡ map shown_fault old.unreadable.items ++ faults_of_stems machine path folder stems
+      ≡ map shown_fault old.unreadable.items ++ faults_of_stems machine search_path folder stems
   pub folders : new.folders.items ≡ old.folders.items
 
 -- the index has exactly what was found in the folders `done` of the search path
-pub record IsIndexUpTo (machine : Machine) (path done : List (List ℕ)) (index : UnitIndex) : Type 0 where
+pub record IsIndexUpTo (machine : Machine) (search_path done : List (List ℕ)) (index : UnitIndex) : Type 0 where
   pub folders : map shown_folder index.folders.items ≡ map (searched machine) done
-  pub destinations : (stem : List ℕ) → destination_of index stem ≡ destination_among machine path done stem
-  pub unreadable : map shown_fault index.unreadable.items ≡ flat_map (unreadable_at machine path) done
+  pub destinations : (stem : List ℕ) → destination_of index stem ≡ destination_among machine search_path done stem
+  pub unreadable : map shown_fault index.unreadable.items ≡ flat_map (unreadable_at machine search_path) done
 
 -- the index is that of this search path on the machine
-pub record IsIndexOf (machine : Machine) (path : List (List ℕ)) (index : UnitIndex) : Type 0 where
-  pub folders : map shown_folder index.folders.items ≡ map (searched machine) path
-  pub destinations : (stem : List ℕ) → destination_of index stem ≡ destination_in machine path stem
-  pub aliases : map shown_alias index.aliases.items ≡ aliases_in machine path
-  pub unreadable : map shown_fault index.unreadable.items ≡ unreadable_in machine path
+pub record IsIndexOf (machine : Machine) (search_path : List (List ℕ)) (index : UnitIndex) : Type 0 where
+  pub folders : map shown_folder index.folders.items ≡ map (searched machine) search_path
+  pub destinations : (stem : List ℕ) → destination_of index stem ≡ destination_in machine search_path stem
+  pub aliases : map shown_alias index.aliases.items ≡ aliases_in machine search_path
+  pub unreadable : map shown_fault index.unreadable.items ≡ unreadable_in machine search_path

@@ -40,7 +40,7 @@ aliases_named lookup names = filter_map (alias_with lookup) (stems_of names)
 -- is in several folders is in the list several times. systemd leaves out an alias whose unit is masked; it isn't left
 -- out here.
 abbrev pub aliases_in : Machine → List (List ℕ) → List Alias
-aliases_in machine path = flat_map (λ folder. aliases_named (destination_in machine path) (listed machine folder)) path
+aliases_in machine search_path = flat_map (λ folder. aliases_named (destination_in machine search_path) (listed machine folder)) search_path
 
 -- ## The names of a unit
 
@@ -81,17 +81,17 @@ names_with lookup aliases file own asked =
 -- the stems of all names of the unit that was asked for by the stem `asked`, if its own stem is `own`, and its file was
 -- found under the stem `file`
 abbrev pub names_on : Machine → List (List ℕ) → List ℕ → List ℕ → List ℕ → List (List ℕ)
-names_on machine path file own asked = names_with (destination_in machine path) (aliases_in machine path) file own asked
+names_on machine search_path file own asked = names_with (destination_in machine search_path) (aliases_in machine search_path) file own asked
 
 abbrev pub names_of_unit : Machine → List (List ℕ) → List ℕ → Unit → List (List ℕ)
-names_of_unit machine path asked Unfound = []
-names_of_unit machine path asked TemplateOnly = []
-names_of_unit machine path asked TooManyAliases = []
-names_of_unit machine path asked (FoundAt file own_file own) = names_on machine path own_file own asked
+names_of_unit machine search_path asked Unfound = []
+names_of_unit machine search_path asked TemplateOnly = []
+names_of_unit machine search_path asked TooManyAliases = []
+names_of_unit machine search_path asked (FoundAt file own_file own) = names_on machine search_path own_file own asked
 
 -- the stems of all names of the unit that is found for a stem; none if no unit is found
 abbrev pub names_for : Machine → List (List ℕ) → List ℕ → List (List ℕ)
-names_for machine path asked = names_of_unit machine path asked (unit_on machine path asked)
+names_for machine search_path asked = names_of_unit machine search_path asked (unit_on machine search_path asked)
 
 -- ## What a call returned
 

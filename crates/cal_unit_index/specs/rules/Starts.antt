@@ -22,7 +22,7 @@ is_wants_name name = ends_with nat_eq name (codes ".wants") || ends_with nat_eq 
 
 -- the names of the wants folders of a search path, sorted by their bytes, each once
 abbrev pub wants_names : Machine → List (List ℕ) → List (List ℕ)
-wants_names machine path = sorted_once (flat_map (λ folder. filter is_wants_name (listed machine folder)) path)
+wants_names machine search_path = sorted_once (flat_map (λ folder. filter is_wants_name (listed machine folder)) search_path)
 
 -- The wants folders with this name that are read, below these folders of the search path. Here and below, `roots` are
 -- the folders of the search path from the least important one to the most important one. systemd finds wants folders as
@@ -116,7 +116,7 @@ started_by machine roots name = filter_map (stem_started machine name) (files_wa
 
 -- the stems of the timers that are started, sorted by their bytes, each once; whether these timers exist isn't examined
 abbrev pub started_in : Machine → List (List ℕ) → List (List ℕ)
-started_in machine path = sorted_once (flat_map (started_by machine (reverse path)) (wants_names machine path))
+started_in machine search_path = sorted_once (flat_map (started_by machine (reverse search_path)) (wants_names machine search_path))
 
 -- ## What can't be read
 
@@ -128,4 +128,4 @@ unreadable_named machine roots name =
 -- The wants folders that can't be read, sorted by name. Folders with the same name go from the least important one to
 -- the most important one.
 abbrev pub unreadable_wants : Machine → List (List ℕ) → List Fault
-unreadable_wants machine path = flat_map (unreadable_named machine (reverse path)) (wants_names machine path)
+unreadable_wants machine search_path = flat_map (unreadable_named machine (reverse search_path)) (wants_names machine search_path)

@@ -77,7 +77,7 @@ unit_by lookup stem = if is_template stem then TemplateOnly else unit_from stem 
 
 -- what is found for a stem on a machine with this search path
 abbrev pub unit_on : Machine → List (List ℕ) → List ℕ → Unit
-unit_on machine path stem = unit_by (destination_in machine path) stem
+unit_on machine search_path stem = unit_by (destination_in machine search_path) stem
 
 -- ## What a call returned
 

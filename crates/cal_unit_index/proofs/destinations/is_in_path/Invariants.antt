@@ -7,4 +7,4 @@ use Rattle.cal_unit_index.proofs.destinations.is_in_path.Given as goal
 -- isn't in any folder so far
 abbrev pub invariant-loop-folder : goal.invariant-loop-folder
 invariant-loop-folder l =
-    list_any (is_below l.place) (map string_bytes (drop l.folder-index l.path)) ≡ list_any (is_below l.place) (map string_bytes l.path)
+    list_any (is_below l.place) (map string_bytes (drop l.folder-index l.search_path)) ≡ list_any (is_below l.place) (map string_bytes l.search_path)

@@ -5,11 +5,11 @@ use Rattle.cal_unit_index.proofs.SearchFolderLemmas.{listings_are, paths_are}
 use Rattle.cal_unit_index.proofs.drop_ins.find_drop_ins.Goals as goal
 
 pub returns-clause-known : goal.returns-clause-known
-returns-clause-known g c = IfOk-weaker c.find_below.result _ _ (λ found known machine path shows is.
-    let same : map shown_folder c.folders.result.now ≡ map (searched machine) path = ap (map shown_folder) c.folders.ensures ∙ is.folders in
-    rw (paths_are machine path c.folders.result.now same) at (known machine shows (listings_are machine path c.folders.result.now same))) c.find_below.ensures.known
+returns-clause-known g c = IfOk-weaker c.find_below.result _ _ (λ found known machine search_path shows is.
+    let same : map shown_folder c.folders.result.now ≡ map (searched machine) search_path = ap (map shown_folder) c.folders.ensures ∙ is.folders in
+    rw (paths_are machine search_path c.folders.result.now same) at (known machine shows (listings_are machine search_path c.folders.result.now same))) c.find_below.ensures.known
 
 pub returns-clause-unread : goal.returns-clause-unread
-returns-clause-unread g c = IfOk-weaker c.find_below.result _ _ (λ found known machine path shows is.
-    let same : map shown_folder c.folders.result.now ≡ map (searched machine) path = ap (map shown_folder) c.folders.ensures ∙ is.folders in
-    rw (paths_are machine path c.folders.result.now same) at (known machine shows (listings_are machine path c.folders.result.now same))) c.find_below.ensures.unread
+returns-clause-unread g c = IfOk-weaker c.find_below.result _ _ (λ found known machine search_path shows is.
+    let same : map shown_folder c.folders.result.now ≡ map (searched machine) search_path = ap (map shown_folder) c.folders.ensures ∙ is.folders in
+    rw (paths_are machine search_path c.folders.result.now same) at (known machine shows (listings_are machine search_path c.folders.result.now same))) c.find_below.ensures.unread

@@ -7,5 +7,5 @@ use Rattle.cal_unit_index.proofs.index.read_folders.Given as goal
 abbrev pub invariant-loop-folder : goal.invariant-loop-folder
 invariant-loop-folder g l =
     ((machine : Machine) → g.T.Tree.shows l.tree machine
-    → IsIndexUpTo machine (map string_bytes l.path) (map string_bytes (take l.folder-index l.path)) l.index)
+    → IsIndexUpTo machine (map string_bytes l.search_path) (map string_bytes (take l.folder-index l.search_path)) l.index)
     × ((machine : Machine) → g.T.Tree.shows l.tree machine → g.T.Tree.shows l.fn.tree machine)

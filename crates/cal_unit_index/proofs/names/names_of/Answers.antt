@@ -9,10 +9,10 @@ use Rattle.cal_unit_index.proofs.names.names_of.Goals as goal
 pub returns : goal.returns
 returns c = record {
   known =
-      IfOk-weaker c.indexed_names.result _ _ (λ names known machine path is.
+      IfOk-weaker c.indexed_names.result _ _ (λ names known machine search_path is.
       let file = string_bytes c.args.file.now.file in
       let own = string_bytes c.args.file.now.stem in
       known
-      ∙ ap (λ lookup. names_with lookup (map shown_alias c.args.index.now.aliases.items) file own c.args.asked.now) (same_lookup (destination_of c.args.index.now) (destination_in machine path) is.destinations)
-      ∙ ap (λ aliases. names_with (destination_in machine path) aliases file own c.args.asked.now) is.aliases) c.indexed_names.ensures;
+      ∙ ap (λ lookup. names_with lookup (map shown_alias c.args.index.now.aliases.items) file own c.args.asked.now) (same_lookup (destination_of c.args.index.now) (destination_in machine search_path) is.destinations)
+      ∙ ap (λ aliases. names_with (destination_in machine search_path) aliases file own c.args.asked.now) is.aliases) c.indexed_names.ensures;
 }

@@ -5,4 +5,4 @@ use Rattle.cal_unit_index.proofs.paths.each_once.Given as goal
 
 -- the search path so far has the folders before the loop's index
 abbrev pub invariant-loop-folder : goal.invariant-loop-folder
-invariant-loop-folder l = map string_bytes l.path.items ≡ fold with_folder [] (map plain_path (map (λ folder. folder.now) (take l.folder-index l.folders)))
+invariant-loop-folder l = map string_bytes l.search_path.items ≡ fold with_folder [] (map plain_path (map (λ folder. folder.now) (take l.folder-index l.folders)))

@@ -8,5 +8,5 @@ use borrow.Author.Tests.{tests}
 
 pub returns : goal.returns
 returns c =
-    any_from_yields_List (λ known. bytes_eq c.args.folder.now (string_bytes known)) _ _ c.any.result c.any.ensures.ran (YieldsList-from_slice c.args.path.now cc) (λ x b q k. search (rules, tests))
-    ∙ any_of_texts (bytes_eq c.args.folder.now) c.args.path.now
+    any_from_yields_List (λ known. bytes_eq c.args.folder.now (string_bytes known)) _ _ c.any.result c.any.ensures.ran (YieldsList-from_slice c.args.search_path.now cc) (λ x b q k. search (rules, tests))
+    ∙ any_of_texts (bytes_eq c.args.folder.now) c.args.search_path.now

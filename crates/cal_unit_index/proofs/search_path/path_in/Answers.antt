@@ -12,4 +12,4 @@ returns c =
     (ap texts c.as_slice-2.ensures.value ∙ c.in_ok-config_dirs.ensures ∙ ap paths_in (ap (λ text. text.now) c.unwrap_or.ensures ∙ now_or c.args.variables.now.config_dirs _))
     (ap texts c.as_slice-3.ensures.value ∙ c.in_ok-data_dirs.ensures ∙ ap paths_in (ap (λ text. text.now) c.unwrap_or-2.ensures ∙ now_or c.args.variables.now.data_dirs _)) in
     let all = ap texts c.as_slice-5.ensures.value ∙ c.in_ok-folders-2.ensures ∙ ap (map string_bytes) c.as_slice-4.ensures.value ∙ c.in_ok-folders.ensures in
-    IfOk-weaker c.each_once.result _ _ (λ path h. h ∙ ap each_once (all ∙ folders)) c.each_once.ensures
+    IfOk-weaker c.each_once.result _ _ (λ search_path h. h ∙ ap each_once (all ∙ folders)) c.each_once.ensures

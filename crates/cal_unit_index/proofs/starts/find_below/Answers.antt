@@ -15,11 +15,11 @@ pub loop-name-preserved : goal.loop-name-preserved
 loop-name-preserved g c = (
   (λ machine shows all.
       let held = c.loop-name.invariant.0 machine (c.add_named.ensures.grows machine shows) all in
-      let below = reverse (map path_of c.args.path.now) in
+      let below = reverse (map path_of c.args.search_path.now) in
       let roots : map (λ root. path_of root.now) c.in_ok-roots.roots.items ≡ below =
-      sym (map-map path_of (λ root. root.now) c.in_ok-roots.roots.items) ∙ ap (map path_of) c.in_ok-roots.ensures ∙ map_reverse path_of c.args.path.now in
+      sym (map-map path_of (λ root. root.now) c.in_ok-roots.roots.items) ∙ ap (map path_of) c.in_ok-roots.ensures ∙ map_reverse path_of c.args.search_path.now in
       let listed : All (IsListing machine) (map (λ root. root.now) c.in_ok-roots.roots.items) =
-      rw c.in_ok-roots.ensures (All_reverse (IsListing machine) c.args.path.now all) in
+      rw c.in_ok-roots.ensures (All_reverse (IsListing machine) c.args.search_path.now all) in
       let added = (rw (c.as_slice.ensures.value, c.as_str.ensures.value, roots) at (c.in_ok-add_named.ensures.known machine shows (rw c.as_slice.ensures.value listed))) in (
         texts_of_more (started_by machine below) string_bytes [] (map string_bytes c.loop-name.stems.keys) (map string_bytes c.add_named.new.stems.keys)
             c.loop-name.yielded c.in-Some.name added.0 held.0,
@@ -34,17 +34,17 @@ returns-clause-known g c = λ machine shows all.
     let keys = c.in_ok-name-items.name-items.keys in
     let done = YieldsList-end (YieldsList-from_rest keys c.into_iter-name-iterator.ensures.into_iter_gives.0) c.loop-name.yielded _ c.loop-name.yielded_by _ _ c.in-None.is c.next.ensures.steps in
     let visited : map string_bytes c.loop-name.yielded ≡ map string_bytes keys = ap (map string_bytes) (sym (map-id c.loop-name.yielded) ∙ done.0) in
-    let names : map string_bytes keys ≡ wants_names machine (map path_of c.args.path.now) =
-    c.in_ok-name-items.ensures ∙ ap sorted_once (each_listing machine (filter is_wants_name) c.args.path.now all) in
+    let names : map string_bytes keys ≡ wants_names machine (map path_of c.args.search_path.now) =
+    c.in_ok-name-items.ensures ∙ ap sorted_once (each_listing machine (filter is_wants_name) c.args.search_path.now all) in
     (c.loop-name.invariant.0 machine shows all).0
-    ∙ ap (λ names. sorted_once (flat_map (started_by machine (reverse (map path_of c.args.path.now))) names)) (visited ∙ names)
+    ∙ ap (λ names. sorted_once (flat_map (started_by machine (reverse (map path_of c.args.search_path.now))) names)) (visited ∙ names)
 
 pub returns-clause-unreadable : goal.returns-clause-unreadable
 returns-clause-unreadable g c = λ machine shows all.
     let keys = c.in_ok-name-items.name-items.keys in
     let done = YieldsList-end (YieldsList-from_rest keys c.into_iter-name-iterator.ensures.into_iter_gives.0) c.loop-name.yielded _ c.loop-name.yielded_by _ _ c.in-None.is c.next.ensures.steps in
     let visited : map string_bytes c.loop-name.yielded ≡ map string_bytes keys = ap (map string_bytes) (sym (map-id c.loop-name.yielded) ∙ done.0) in
-    let names : map string_bytes keys ≡ wants_names machine (map path_of c.args.path.now) =
-    c.in_ok-name-items.ensures ∙ ap sorted_once (each_listing machine (filter is_wants_name) c.args.path.now all) in
+    let names : map string_bytes keys ≡ wants_names machine (map path_of c.args.search_path.now) =
+    c.in_ok-name-items.ensures ∙ ap sorted_once (each_listing machine (filter is_wants_name) c.args.search_path.now all) in
     (c.loop-name.invariant.0 machine shows all).1
-    ∙ ap (flat_map (unreadable_named machine (reverse (map path_of c.args.path.now)))) (visited ∙ names)
+    ∙ ap (flat_map (unreadable_named machine (reverse (map path_of c.args.search_path.now)))) (visited ∙ names)

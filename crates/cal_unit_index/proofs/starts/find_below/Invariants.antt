@@ -10,7 +10,7 @@ use Rattle.cal_unit_index.proofs.starts.find_below.Given as goal
 -- the timers that the wants folders with the names so far start have been added, and the errors about these folders
 abbrev pub invariant-loop-name : goal.invariant-loop-name
 invariant-loop-name g l =
-    ((machine : Machine) → g.T.Tree.shows l.tree machine → All (IsListing machine) l.path
-    → (map string_bytes l.stems.keys ≡ sorted_once (flat_map (started_by machine (reverse (map path_of l.path))) (map string_bytes l.yielded)))
-    × (map shown_fault l.unreadable.items ≡ flat_map (unreadable_named machine (reverse (map path_of l.path))) (map string_bytes l.yielded)))
+    ((machine : Machine) → g.T.Tree.shows l.tree machine → All (IsListing machine) l.search_path
+    → (map string_bytes l.stems.keys ≡ sorted_once (flat_map (started_by machine (reverse (map path_of l.search_path))) (map string_bytes l.yielded)))
+    × (map shown_fault l.unreadable.items ≡ flat_map (unreadable_named machine (reverse (map path_of l.search_path))) (map string_bytes l.yielded)))
     × ((machine : Machine) → g.T.Tree.shows l.tree machine → g.T.Tree.shows l.fn.tree machine)

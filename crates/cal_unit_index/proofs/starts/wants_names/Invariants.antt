@@ -8,4 +8,4 @@ use Rattle.cal_unit_index.proofs.starts.wants_names.Given as goal
 abbrev pub invariant-loop-folder : goal.invariant-loop-folder
 invariant-loop-folder l =
     map string_bytes l.names.keys
-    ≡ sorted_once (flat_map (λ folder. filter is_wants_name (map string_bytes folder.names.keys)) (take l.folder-index l.path))
+    ≡ sorted_once (flat_map (λ folder. filter is_wants_name (map string_bytes folder.names.keys)) (take l.folder-index l.search_path))

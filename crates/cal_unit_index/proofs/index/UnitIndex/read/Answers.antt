@@ -9,6 +9,6 @@ returns-clause-known g c machine shows =
     record {
       folders = known.folders;
       destinations = known.destinations;
-      aliases = c.in_ok-index-2.ensures ∙ each_folder machine (map string_bytes c.args.path.now) c.in_ok-index.index aliases_named known.folders known.destinations;
+      aliases = c.in_ok-index-2.ensures ∙ each_folder machine (map string_bytes c.args.search_path.now) c.in_ok-index.index aliases_named known.folders known.destinations;
       unreadable = known.unreadable;
     }

@@ -8,7 +8,7 @@ use Rattle.cal_unit_index.proofs.index.UnitIndex.unit_names.Goals as goal
 pub returns : goal.returns
 returns c = record {
   known =
-      IfOk-weaker c.find_unit_names.result _ _ (λ names known machine path is.
+      IfOk-weaker c.find_unit_names.result _ _ (λ names known machine search_path is.
       known
-      ∙ ap sorted_once (each_folder machine path c.args.self.now (λ lookup found. filter (is_unit lookup) (stems_of found)) is.folders is.destinations)) c.find_unit_names.ensures;
+      ∙ ap sorted_once (each_folder machine search_path c.args.self.now (λ lookup found. filter (is_unit lookup) (stems_of found)) is.folders is.destinations)) c.find_unit_names.ensures;
 }
