@@ -424,14 +424,14 @@ unit_read machine path taken drop_ins lost reason old mid new h same k because p
     )
 
 -- if the file of a unit can't be used, and so no drop-in was tried, `AreReadFor` holds for the unit
-pub unusable_read : (machine : Machine) (path : List (List ℕ)) (asked file own_file own : List ℕ) (reason : Reason) (found : TargetReason) (unit : Unit) (old new : Reading)
+pub unusable_read : (machine : Machine) (search_path : List (List ℕ)) (asked file own_file own : List ℕ) (reason : Reason) (found : TargetReason) (unit : Unit) (old new : Reading)
     → IsTaken machine file (taken.TheVariants.Unusable reason) old new → new.loaded.faults.items ≡ old.loaded.faults.items
     → IsCause (cause_of file reason) found → FoundAt file own_file own ≡ unit
-    → AreReadFor machine (paths_of_unit machine path asked unit) (lost_of_unit machine path asked unit) (cause_of_unit machine unit) (Some found) old new
-unusable_read machine path asked file own_file own reason found unit old new h same because is =
-    let names = names_on machine path own_file own asked in
-    subst (λ unit. AreReadFor machine (paths_of_unit machine path asked unit) (lost_of_unit machine path asked unit) (cause_of_unit machine unit) (Some found) old new) is
-    (unit_read machine file (taken.TheVariants.Unusable reason) (drop_ins machine path Timer names) (lost_drop_ins machine path names) (Some found) old new new h same
+    → AreReadFor machine (paths_of_unit machine search_path asked unit) (lost_of_unit machine search_path asked unit) (cause_of_unit machine unit) (Some found) old new
+unusable_read machine search_path asked file own_file own reason found unit old new h same because is =
+    let names = names_on machine search_path own_file own asked in
+    subst (λ unit. AreReadFor machine (paths_of_unit machine search_path asked unit) (lost_of_unit machine search_path asked unit) (cause_of_unit machine unit) (Some found) old new) is
+    (unit_read machine file (taken.TheVariants.Unusable reason) (drop_ins machine search_path Timer names) (lost_drop_ins machine search_path names) (Some found) old new new h same
     (λ paths tried. (tried, lost_none new.loaded.faults.items)) because)
 
 -- if a unit was read (`AreReadFor`), and then, if the unit is lost, the reason was reported, `AreReadAlso` holds
@@ -447,41 +447,41 @@ reported_read machine more lost cause reason given also old mid new h e seen fil
 
 -- if a name isn't valid, no path was tried, and the name was reported as not found, then `AreReadAlso` holds for the
 -- name
-pub invalid_read : (machine : Machine) (path : List (List ℕ)) (name : List ℕ) (stem : Option (List ℕ)) (old new : Reading) → None ≡ stem
+pub invalid_read : (machine : Machine) (search_path : List (List ℕ)) (name : List ℕ) (stem : Option (List ℕ)) (old new : Reading) → None ≡ stem
     → new.seen ≡ old.seen → new.loaded.files.items ≡ old.loaded.files.items
     → AreLostAlso (lost_as name (Some Absent)) old.loaded.faults.items new.loaded.faults.items
-    → AreReadAlso machine (paths_if_valid machine path stem) (lost_if_valid machine path stem ++ lost_as name (cause_if_valid machine path stem)) old new
-invalid_read machine path name stem old new e seen files h =
-    subst (λ stem. AreReadAlso machine (paths_if_valid machine path stem) (lost_if_valid machine path stem ++ lost_as name (cause_if_valid machine path stem)) old new) e
+    → AreReadAlso machine (paths_if_valid machine search_path stem) (lost_if_valid machine search_path stem ++ lost_as name (cause_if_valid machine search_path stem)) old new
+invalid_read machine search_path name stem old new e seen files h =
+    subst (λ stem. AreReadAlso machine (paths_if_valid machine search_path stem) (lost_if_valid machine search_path stem ++ lost_as name (cause_if_valid machine search_path stem)) old new) e
     (read_errors machine (lost_as name (Some Absent)) old new seen files h)
 
 -- if a name is valid, and its unit is lost and was reported, then `AreReadAlso` holds for the name
-pub valid_read : (machine : Machine) (path : List (List ℕ)) (name asked : List ℕ) (stem : Option (List ℕ)) (found : Option TargetReason) (reason : TargetReason) (old mid new : Reading)
+pub valid_read : (machine : Machine) (search_path : List (List ℕ)) (name asked : List ℕ) (stem : Option (List ℕ)) (found : Option TargetReason) (reason : TargetReason) (old mid new : Reading)
     → Some asked ≡ stem
-    → AreReadFor machine (unit_paths machine path asked) (lost_of_unit machine path asked (unit_on machine path asked)) (cause_of_unit machine (unit_on machine path asked)) found old mid
+    → AreReadFor machine (unit_paths machine search_path asked) (lost_of_unit machine search_path asked (unit_on machine search_path asked)) (cause_of_unit machine (unit_on machine search_path asked)) found old mid
     → found ≡ Some reason → new.seen ≡ mid.seen → new.loaded.files.items ≡ mid.loaded.files.items
     → ((cause : Cause) → IsCause cause reason → AreLostAlso (lost_as name (Some cause)) mid.loaded.faults.items new.loaded.faults.items)
-    → AreReadAlso machine (paths_if_valid machine path stem) (lost_if_valid machine path stem ++ lost_as name (cause_if_valid machine path stem)) old new
-valid_read machine path name asked stem found reason old mid new e h is seen files k =
-    let cause = cause_of_unit machine (unit_on machine path asked) in
-    subst (λ stem. AreReadAlso machine (paths_if_valid machine path stem) (lost_if_valid machine path stem ++ lost_as name (cause_if_valid machine path stem)) old new) e
-    (reported_read machine (unit_paths machine path asked) (lost_of_unit machine path asked (unit_on machine path asked)) cause found (Some reason) (lost_as name cause) old mid new
+    → AreReadAlso machine (paths_if_valid machine search_path stem) (lost_if_valid machine search_path stem ++ lost_as name (cause_if_valid machine search_path stem)) old new
+valid_read machine search_path name asked stem found reason old mid new e h is seen files k =
+    let cause = cause_of_unit machine (unit_on machine search_path asked) in
+    subst (λ stem. AreReadAlso machine (paths_if_valid machine search_path stem) (lost_if_valid machine search_path stem ++ lost_as name (cause_if_valid machine search_path stem)) old new) e
+    (reported_read machine (unit_paths machine search_path asked) (lost_of_unit machine search_path asked (unit_on machine search_path asked)) cause found (Some reason) (lost_as name cause) old mid new
     h is seen files (one_named name cause reason mid.loaded.faults.items new.loaded.faults.items k))
 
 -- if the drop-in folders that can't be read were reported, and then the drop-ins of a unit were tried, `AreReadAlso`
 -- holds for the drop-ins
-pub drop_ins_read : (machine : Machine) (path names : List (List ℕ)) (paths : List (String Global)) (unread : List UnitFault) (old mid new : Reading)
-    → map string_bytes paths ≡ drop_ins machine path Timer names → map shown_fault unread ≡ unread_folders machine path Timer names
+pub drop_ins_read : (machine : Machine) (search_path names : List (List ℕ)) (paths : List (String Global)) (unread : List UnitFault) (old mid new : Reading)
+    → map string_bytes paths ≡ drop_ins machine search_path Timer names → map shown_fault unread ≡ unread_folders machine search_path Timer names
     → mid.seen ≡ old.seen → mid.loaded.files.items ≡ old.loaded.files.items
     → AreLostAlso (map lost_path (map shown_fault unread)) old.loaded.faults.items mid.loaded.faults.items
     → AreReadAlso machine (map string_bytes paths) (flat_map (lost_drop_in machine) (map string_bytes paths)) mid new
-    → AreReadAlso machine (drop_ins machine path Timer names) (lost_drop_ins machine path names) old new
-drop_ins_read machine path names paths unread old mid new are unread_are seen files h k =
+    → AreReadAlso machine (drop_ins machine search_path Timer names) (lost_drop_ins machine search_path names) old new
+drop_ins_read machine search_path names paths unread old mid new are unread_are seen files h k =
     let folders = map lost_path (map shown_fault unread) in
     let files_lost = flat_map (lost_drop_in machine) (map string_bytes paths) in
-    read_as machine (map string_bytes paths) (drop_ins machine path Timer names) (folders ++ files_lost) (lost_drop_ins machine path names) old new are
+    read_as machine (map string_bytes paths) (drop_ins machine search_path Timer names) (folders ++ files_lost) (lost_drop_ins machine search_path names) old new are
     (ap (λ faults. map lost_path faults ++ files_lost) unread_are
-    ∙ ap (λ paths. map lost_path (unread_folders machine path Timer names) ++ flat_map (lost_drop_in machine) paths) are)
+    ∙ ap (λ paths. map lost_path (unread_folders machine search_path Timer names) ++ flat_map (lost_drop_in machine) paths) are)
     (read_both machine [] (map string_bytes paths) folders files_lost old mid new (read_errors machine folders old mid seen files h) k)
 
 -- ## Folders
@@ -537,29 +537,29 @@ folder_read machine folder stems unread old mid last new stems_are unread_are se
 
 -- ## Targets
 
-pub named_by : (machine : Machine) (path : List (List ℕ)) (target : List ℕ) (old new : Reading) → is_path target ≡ false
-    → AreReadAlso machine (paths_if_valid machine path (unit_stem target)) (lost_named machine path target) old new
-    → AreReadAlso machine (paths_by machine path target) (lost_by machine path target) old new
-named_by machine path target old new e h = rw e h
+pub named_by : (machine : Machine) (search_path : List (List ℕ)) (target : List ℕ) (old new : Reading) → is_path target ≡ false
+    → AreReadAlso machine (paths_if_valid machine search_path (unit_stem target)) (lost_named machine search_path target) old new
+    → AreReadAlso machine (paths_by machine search_path target) (lost_by machine search_path target) old new
+named_by machine search_path target old new e h = rw e h
 
-folder_paths_by : (machine : Machine) (path : List (List ℕ)) (target folder : List ℕ) → is_path target ≡ true → folder ≡ without_slashes target
-    → is_folder (end_at machine folder) ≡ true → folder_paths machine folder ≡ paths_by machine path target
-folder_paths_by machine path target folder e is folders =
+folder_paths_by : (machine : Machine) (search_path : List (List ℕ)) (target folder : List ℕ) → is_path target ≡ true → folder ≡ without_slashes target
+    → is_folder (end_at machine folder) ≡ true → folder_paths machine folder ≡ paths_by machine search_path target
+folder_paths_by machine search_path target folder e is folders =
     let at : folder_paths machine folder ≡ paths_at machine folder = rw folders refl in
-    let by : paths_at machine folder ≡ paths_by machine path target = rw e (ap (paths_at machine) is) in
+    let by : paths_at machine folder ≡ paths_by machine search_path target = rw e (ap (paths_at machine) is) in
     at ∙ by
 
-folder_lost_by : (machine : Machine) (path : List (List ℕ)) (target folder : List ℕ) → is_path target ≡ true → folder ≡ without_slashes target
-    → is_folder (end_at machine folder) ≡ true → lost_folder machine folder ≡ lost_by machine path target
-folder_lost_by machine path target folder e is folders =
+folder_lost_by : (machine : Machine) (search_path : List (List ℕ)) (target folder : List ℕ) → is_path target ≡ true → folder ≡ without_slashes target
+    → is_folder (end_at machine folder) ≡ true → lost_folder machine folder ≡ lost_by machine search_path target
+folder_lost_by machine search_path target folder e is folders =
     let at : lost_folder machine folder ≡ lost_at machine folder = rw folders refl in
-    let by : lost_at machine folder ≡ lost_by machine path target = rw e (ap (lost_at machine) is) in
+    let by : lost_at machine folder ≡ lost_by machine search_path target = rw e (ap (lost_at machine) is) in
     at ∙ by
 
-pub folder_by : (machine : Machine) (path : List (List ℕ)) (target folder : List ℕ) (old new : Reading) → is_path target ≡ true
+pub folder_by : (machine : Machine) (search_path : List (List ℕ)) (target folder : List ℕ) (old new : Reading) → is_path target ≡ true
     → folder ≡ without_slashes target → is_folder (end_at machine folder) ≡ true
     → AreReadAlso machine (folder_paths machine folder) (lost_folder machine folder) old new
-    → AreReadAlso machine (paths_by machine path target) (lost_by machine path target) old new
-folder_by machine path target folder old new e is folders h =
-    read_as machine (folder_paths machine folder) (paths_by machine path target) (lost_folder machine folder) (lost_by machine path target) old new
-    (folder_paths_by machine path target folder e is folders) (folder_lost_by machine path target folder e is folders) h
+    → AreReadAlso machine (paths_by machine search_path target) (lost_by machine search_path target) old new
+folder_by machine search_path target folder old new e is folders h =
+    read_as machine (folder_paths machine folder) (paths_by machine search_path target) (lost_folder machine folder) (lost_by machine search_path target) old new
+    (folder_paths_by machine search_path target folder e is folders) (folder_lost_by machine search_path target folder e is folders) h

@@ -40,8 +40,8 @@ machine =
       variable = λ name. Ok None;
     }
 
-abbrev path : List (List ℕ)
-path = codes "/etc" ∷ []
+abbrev search_path : List (List ℕ)
+search_path = codes "/etc" ∷ []
 
 abbrev absent : List ℕ → Lost
 absent name = record { name = name; cause = Absent }
@@ -49,26 +49,26 @@ absent name = record { name = name; cause = Absent }
 abbrev unreadable : List ℕ → List ℕ → Lost
 unreadable name file = record { name = name; cause = UnusableAt file (Unreadable Failed) }
 
-named_units : map (lost_named machine path) (codes "a" ∷ codes "b.timer" ∷ codes "x" ∷ codes "t@" ∷ codes "b.service" ∷ [])
+named_units : map (lost_named machine search_path) (codes "a" ∷ codes "b.timer" ∷ codes "x" ∷ codes "t@" ∷ codes "b.service" ∷ [])
     ≡ (unreadable (codes "a") (codes "/etc/a.timer") ∷ []) ∷ (absent (codes "b.timer") ∷ []) ∷ (absent (codes "x") ∷ [])
     ∷ (record { name = codes "t@"; cause = IsTemplate } ∷ []) ∷ (absent (codes "b.service") ∷ []) ∷ []
 unfolding walk after_prefix template_of listed_stem file_stem unit_stem without_suffix is_stem unit_kind_of instance_of
 named_units = refl
 
 -- the stems of all units, and then those of the units that other units start
-units : map (units_on machine path) (true ∷ false ∷ []) ≡ (codes "a" ∷ codes "b" ∷ codes "t@i" ∷ []) ∷ (codes "t@i" ∷ []) ∷ []
+units : map (units_on machine search_path) (true ∷ false ∷ []) ≡ (codes "a" ∷ codes "b" ∷ codes "t@i" ∷ []) ∷ (codes "t@i" ∷ []) ∷ []
 unfolding by_name walk after_prefix template_of listed_stem file_stem unit_stem without_suffix is_stem unit_kind_of instance_of
 units = refl
 
 -- the link to nothing is skipped if no target is given
-listed_units : map (all_lost machine path) (true ∷ false ∷ [])
+listed_units : map (all_lost machine search_path) (true ∷ false ∷ [])
     ≡ (unreadable (codes "a.timer") (codes "/etc/a.timer") ∷ unreadable (codes "t@i.timer") (codes "/etc/t@.timer") ∷ unreadable (codes "/etc/w.wants") (codes "/etc/w.wants") ∷ [])
     ∷ (unreadable (codes "t@i.timer") (codes "/etc/t@.timer") ∷ unreadable (codes "/etc/w.wants") (codes "/etc/w.wants") ∷ []) ∷ []
 unfolding by_name walk after_prefix template_of listed_stem file_stem unit_stem without_suffix is_stem unit_kind_of instance_of
 listed_units = refl
 
 -- which units are disabled: those that no other unit starts
-disabled_units : map (is_disabled (started_if_all machine path true)) (codes "a.timer" ∷ codes "t@i.timer" ∷ []) ≡ true ∷ false ∷ []
+disabled_units : map (is_disabled (started_if_all machine search_path true)) (codes "a.timer" ∷ codes "t@i.timer" ∷ []) ≡ true ∷ false ∷ []
 unfolding by_name walk after_prefix template_of listed_stem file_stem unit_stem without_suffix is_stem unit_kind_of instance_of
 disabled_units = refl
 

@@ -15,38 +15,38 @@ use Rattle.cal_load.specs.declared.loaded.LoadedTimer.{LoadedTimer}
 
 -- Suppose that `after` is `before`, followed by the timer that was found, if any. If all timers in `before` are on the
 -- machine, and so is the timer that was found, then all timers in `after` are on the machine.
-pub timers_more : (machine : Machine) (path : List (List ℕ)) (found : Result targets.LoadedTarget TargetLoadFault) (before after : List LoadedTimer)
-    → IfOk found (IsLoadedTarget machine path) → after ≡ before ++ timers_in found
-    → All (IsTimerOn machine path) before → All (IsTimerOn machine path) after
-timers_more machine path (Ok (targets.TheVariants.Timer timer)) before after h e held =
-    rw e (All-push (IsTimerOn machine path) before timer held h)
-timers_more machine path (Ok targets.TheVariants.Masked) before after h e held = rw (e, append-nil before) held
-timers_more machine path (Err fault) before after h e held = rw (e, append-nil before) held
+pub timers_more : (machine : Machine) (search_path : List (List ℕ)) (found : Result targets.LoadedTarget TargetLoadFault) (before after : List LoadedTimer)
+    → IfOk found (IsLoadedTarget machine search_path) → after ≡ before ++ timers_in found
+    → All (IsTimerOn machine search_path) before → All (IsTimerOn machine search_path) after
+timers_more machine search_path (Ok (targets.TheVariants.Timer timer)) before after h e held =
+    rw e (All-push (IsTimerOn machine search_path) before timer held h)
+timers_more machine search_path (Ok targets.TheVariants.Masked) before after h e held = rw (e, append-nil before) held
+timers_more machine search_path (Err fault) before after h e held = rw (e, append-nil before) held
 
 -- if what was loaded is a unit of the machine (`IsLoadedUnit`), then `IsLoadedTarget` holds
-pub unit_found : (machine : Machine) (path : List (List ℕ)) (asked : List ℕ) (found : targets.LoadedTarget) → IsLoadedUnit machine path asked found → IsLoadedTarget machine path found
-unit_found machine path asked (targets.TheVariants.Timer timer) h = inl (asked, h)
-unit_found machine path asked targets.TheVariants.Masked h = tt
+pub unit_found : (machine : Machine) (search_path : List (List ℕ)) (asked : List ℕ) (found : targets.LoadedTarget) → IsLoadedUnit machine search_path asked found → IsLoadedTarget machine search_path found
+unit_found machine search_path asked (targets.TheVariants.Timer timer) h = inl (asked, h)
+unit_found machine search_path asked targets.TheVariants.Masked h = tt
 
 -- if what was loaded is a file of the machine (`IsLoadedFile`), then `IsLoadedTarget` holds
-pub file_found : (machine : Machine) (path : List (List ℕ)) (found : targets.LoadedTarget) → IsLoadedFile machine found → IsLoadedTarget machine path found
-file_found machine path (targets.TheVariants.Timer timer) h = inr (inl h)
-file_found machine path targets.TheVariants.Masked h = tt
+pub file_found : (machine : Machine) (search_path : List (List ℕ)) (found : targets.LoadedTarget) → IsLoadedFile machine found → IsLoadedTarget machine search_path found
+file_found machine search_path (targets.TheVariants.Timer timer) h = inr (inl h)
+file_found machine search_path targets.TheVariants.Masked h = tt
 
 -- if what was loaded is a unit of a folder, then `IsLoadedTarget` holds
-pub folder_unit_found : (machine : Machine) (path : List (List ℕ)) (folder asked : List ℕ) (found : targets.LoadedTarget)
-    → IsLoadedUnit machine (folder ∷ []) asked found → IsLoadedTarget machine path found
-folder_unit_found machine path folder asked (targets.TheVariants.Timer timer) h = inr (inr (folder, asked, h))
-folder_unit_found machine path folder asked targets.TheVariants.Masked h = tt
+pub folder_unit_found : (machine : Machine) (search_path : List (List ℕ)) (folder asked : List ℕ) (found : targets.LoadedTarget)
+    → IsLoadedUnit machine (folder ∷ []) asked found → IsLoadedTarget machine search_path found
+folder_unit_found machine search_path folder asked (targets.TheVariants.Timer timer) h = inr (inr (folder, asked, h))
+folder_unit_found machine search_path folder asked targets.TheVariants.Masked h = tt
 
 -- if a timer was loaded from the file of a unit (`IsFoundTarget`), then `IsLoadedUnit` holds for this unit
-pub found_is_unit : (machine : Machine) (path : List (List ℕ)) (asked file own_file own : List ℕ) (found : targets.LoadedTarget)
-    → FoundAt file own_file own ≡ unit_on machine path asked → IsFoundTarget machine path file own_file own asked found
-    → IsLoadedUnit machine path asked found
-found_is_unit machine path asked file own_file own (targets.TheVariants.Timer timer) is h =
-    let P : Unit → Type 0 = λ unit. (string_bytes timer.name ≡ name_of_unit unit) × IsTimerReadFrom machine (texts_of_unit machine path asked unit) timer in
+pub found_is_unit : (machine : Machine) (search_path : List (List ℕ)) (asked file own_file own : List ℕ) (found : targets.LoadedTarget)
+    → FoundAt file own_file own ≡ unit_on machine search_path asked → IsFoundTarget machine search_path file own_file own asked found
+    → IsLoadedUnit machine search_path asked found
+found_is_unit machine search_path asked file own_file own (targets.TheVariants.Timer timer) is h =
+    let P : Unit → Type 0 = λ unit. (string_bytes timer.name ≡ name_of_unit unit) × IsTimerReadFrom machine (texts_of_unit machine search_path asked unit) timer in
     subst P is h
-found_is_unit machine path asked file own_file own targets.TheVariants.Masked is h = subst (IsMasked machine) is h
+found_is_unit machine search_path asked file own_file own targets.TheVariants.Masked is h = subst (IsMasked machine) is h
 
 -- if `all` has a unit's own file, and then its drop-ins, it has the files of the unit in order
 pub own_before_drop_ins : (machine : Machine) (file : List ℕ) (own : texts.UnitText) (more all : List texts.UnitText) (dropped : List UnitText)

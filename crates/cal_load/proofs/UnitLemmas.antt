@@ -134,32 +134,32 @@ passing_pushed test view before after xs x added held =
 -- if `IsMore` holds for `first`, and then for `second`, it holds for both; what is known of the machine after the
 -- second step includes what was known after the first
 pub more_both : (Knows Now : Machine → List (List ℕ) → Type 0) (first second : Machine → List (List ℕ) → List Sought) (old mid new : Loaded)
-    → ((machine : Machine) (path : List (List ℕ)) → Now machine path → Knows machine path)
-    → IsMore Knows first old mid → IsMore Now second mid new → IsMore Now (λ machine path. first machine path ++ second machine path) old new
+    → ((machine : Machine) (search_path : List (List ℕ)) → Now machine search_path → Knows machine search_path)
+    → IsMore Knows first old mid → IsMore Now second mid new → IsMore Now (λ machine search_path. first machine search_path ++ second machine search_path) old new
 more_both Knows Now first second old mid new known h k = record {
   outcomes = h.outcomes ++ k.outcomes;
   added = added_both h.outcomes k.outcomes old mid new h.added k.added;
   are = record {
-    true_of = λ machine path now. All-append (IsOutcome machine path) h.outcomes k.outcomes
-        (h.are.true_of machine path (known machine path now)) (k.are.true_of machine path now);
-    are_all = λ machine path now.
+    true_of = λ machine search_path now. All-append (IsOutcome machine search_path) h.outcomes k.outcomes
+        (h.are.true_of machine search_path (known machine search_path now)) (k.are.true_of machine search_path now);
+    are_all = λ machine search_path now.
         map-append (λ outcome. outcome.sought) h.outcomes k.outcomes
-        ∙ ap (λ xs. xs ++ map (λ outcome. outcome.sought) k.outcomes) (h.are.are_all machine path (known machine path now))
-        ∙ ap (λ xs. first machine path ++ xs) (k.are.are_all machine path now);
+        ∙ ap (λ xs. xs ++ map (λ outcome. outcome.sought) k.outcomes) (h.are.are_all machine search_path (known machine search_path now))
+        ∙ ap (λ xs. first machine search_path ++ xs) (k.are.are_all machine search_path now);
   };
 }
 
 -- if `IsMore` holds for `first`, it holds for `second`, provided that both are the same wherever `Now` holds
 pub more_as : (Knows Now : Machine → List (List ℕ) → Type 0) (first second : Machine → List (List ℕ) → List Sought) (old new : Loaded)
-    → ((machine : Machine) (path : List (List ℕ)) → Now machine path → Knows machine path)
-    → ((machine : Machine) (path : List (List ℕ)) → Now machine path → first machine path ≡ second machine path)
+    → ((machine : Machine) (search_path : List (List ℕ)) → Now machine search_path → Knows machine search_path)
+    → ((machine : Machine) (search_path : List (List ℕ)) → Now machine search_path → first machine search_path ≡ second machine search_path)
     → IsMore Knows first old new → IsMore Now second old new
 more_as Knows Now first second old new known same h = record {
   outcomes = h.outcomes;
   added = h.added;
   are = record {
-    true_of = λ machine path now. h.are.true_of machine path (known machine path now);
-    are_all = λ machine path now. h.are.are_all machine path (known machine path now) ∙ same machine path now;
+    true_of = λ machine search_path now. h.are.true_of machine search_path (known machine search_path now);
+    are_all = λ machine search_path now. h.are.are_all machine search_path (known machine search_path now) ∙ same machine search_path now;
   };
 }
 
@@ -178,7 +178,7 @@ more_kept Knows sought old mid new timers masked keeps h = record {
   are = h.are;
 }
 
-pub none_more : (Knows : Machine → List (List ℕ) → Type 0) (loaded : Loaded) → IsMore Knows (λ machine path. []) loaded loaded
+pub none_more : (Knows : Machine → List (List ℕ) → Type 0) (loaded : Loaded) → IsMore Knows (λ machine search_path. []) loaded loaded
 none_more Knows loaded = record {
   outcomes = [];
   added = record {
@@ -188,8 +188,8 @@ none_more Knows loaded = record {
     kept = keeps_same loaded.faults.items;
   };
   are = record {
-    true_of = λ machine path knows. All-nil (IsOutcome machine path);
-    are_all = λ machine path knows. refl;
+    true_of = λ machine search_path knows. All-nil (IsOutcome machine search_path);
+    are_all = λ machine search_path knows. refl;
   };
 }
 
@@ -213,18 +213,18 @@ abbrev outcome_of : Sought → Result targets.LoadedTarget TargetLoadFault → O
 outcome_of sought found = record { sought = sought; found = found }
 
 one_outcome : (Knows : Machine → List (List ℕ) → Type 0) (sought : Sought) (found : Result targets.LoadedTarget TargetLoadFault)
-    → ((machine : Machine) (path : List (List ℕ)) → Knows machine path → IsFound machine path sought found)
-    → AreOutcomes Knows (λ machine path. sought ∷ []) (outcome_of sought found ∷ [])
+    → ((machine : Machine) (search_path : List (List ℕ)) → Knows machine search_path → IsFound machine search_path sought found)
+    → AreOutcomes Knows (λ machine search_path. sought ∷ []) (outcome_of sought found ∷ [])
 one_outcome Knows sought found true_of = record {
-  true_of = λ machine path knows. All-cons (IsOutcome machine path) (outcome_of sought found) [] (true_of machine path knows) (All-nil (IsOutcome machine path));
-  are_all = λ machine path knows. refl;
+  true_of = λ machine search_path knows. All-cons (IsOutcome machine search_path) (outcome_of sought found) [] (true_of machine search_path knows) (All-nil (IsOutcome machine search_path));
+  are_all = λ machine search_path knows. refl;
 }
 
 -- if what was found for `sought` was pushed under its name, `IsMore` holds for `sought`
 pub pushed_more : (Knows : Machine → List (List ℕ) → Type 0) (sought : Sought) (name : List ℕ) (old new : Loaded) (found : Result targets.LoadedTarget TargetLoadFault)
     → name ≡ name_of sought → IsPushed name found old new
-    → ((machine : Machine) (path : List (List ℕ)) → Knows machine path → IsFound machine path sought found)
-    → IsMore Knows (λ machine path. sought ∷ []) old new
+    → ((machine : Machine) (search_path : List (List ℕ)) → Knows machine search_path → IsFound machine search_path sought found)
+    → IsMore Knows (λ machine search_path. sought ∷ []) old new
 pushed_more Knows sought name old new found e pushed true_of = record {
   outcomes = outcome_of sought found ∷ [];
   added = record {
@@ -239,8 +239,8 @@ pushed_more Knows sought name old new found e pushed true_of = record {
 
 -- if a unit of the search path has no file, `IsMore` holds for this unit although nothing was loaded
 pub absent_more : (Knows : Machine → List (List ℕ) → Type 0) (stem : List ℕ) (loaded : Loaded) (found : Result targets.LoadedTarget TargetLoadFault)
-    → is_absent found ≡ true → ((machine : Machine) (path : List (List ℕ)) → Knows machine path → IsFoundOf machine path stem found)
-    → IsMore Knows (λ machine path. ListedUnit stem ∷ []) loaded loaded
+    → is_absent found ≡ true → ((machine : Machine) (search_path : List (List ℕ)) → Knows machine search_path → IsFoundOf machine search_path stem found)
+    → IsMore Knows (λ machine search_path. ListedUnit stem ∷ []) loaded loaded
 absent_more Knows stem loaded (Ok found) e true_of = absurd (cc)
 absent_more Knows stem loaded (Err fault) e true_of = record {
   outcomes = outcome_of (ListedUnit stem) (Err fault) ∷ [];
@@ -263,55 +263,55 @@ ok_or_err P Q R (Err e) f g h k = g e k
 -- if `IsMore` holds for the elements in `xs`, and then for `x`, it holds for all of them; for an element, seen through
 -- `view`, `make` returns what is looked for
 pub one_more : {X Y : Type 0} (Knows Now : Machine → List (List ℕ) → Type 0) (make : Y → Sought) (view : X → Y) (xs : List X) (x : X) (y : Y) (old mid new : Loaded)
-    → ((machine : Machine) (path : List (List ℕ)) → Now machine path → Knows machine path) → y ≡ view x
-    → IsMore Knows (λ machine path. map make (map view xs)) old mid → IsMore Now (λ machine path. make y ∷ []) mid new
-    → IsMore Now (λ machine path. map make (map view (xs ++ x ∷ []))) old new
+    → ((machine : Machine) (search_path : List (List ℕ)) → Now machine search_path → Knows machine search_path) → y ≡ view x
+    → IsMore Knows (λ machine search_path. map make (map view xs)) old mid → IsMore Now (λ machine search_path. make y ∷ []) mid new
+    → IsMore Now (λ machine search_path. map make (map view (xs ++ x ∷ []))) old new
 one_more Knows Now make view xs x y old mid new known is h k =
     let before : List Sought = map make (map view xs) in
-    more_as Now Now (λ machine path. before ++ make y ∷ []) (λ machine path. map make (map view (xs ++ x ∷ []))) old new
-    (λ machine path now. now)
-    (λ machine path now.
+    more_as Now Now (λ machine search_path. before ++ make y ∷ []) (λ machine search_path. map make (map view (xs ++ x ∷ []))) old new
+    (λ machine search_path now. now)
+    (λ machine search_path now.
     ap (λ y. before ++ make y ∷ []) is
     ∙ sym (map-append make (map view xs) (view x ∷ []))
     ∙ ap (map make) (sym (map-append view xs (x ∷ []))))
-    (more_both Knows Now (λ machine path. before) (λ machine path. make y ∷ []) old mid new known h k)
+    (more_both Knows Now (λ machine search_path. before) (λ machine search_path. make y ∷ []) old mid new known h k)
 
 -- if the units of a folder were loaded, and then the paths in it that can't be read were reported, `IsMore` holds for
 -- the folder
 pub folder_more : (Knows : Machine → List (List ℕ) → Type 0) (Shows : Machine → Type 0) (folder : List ℕ) (stems : List (List ℕ)) (unread : List Fault) (old mid new : Loaded)
-    → ((machine : Machine) (path : List (List ℕ)) → Shows machine → Knows machine path)
+    → ((machine : Machine) (search_path : List (List ℕ)) → Shows machine → Knows machine search_path)
     → ((machine : Machine) → Shows machine → stems ≡ units_in_folder machine folder)
     → ((machine : Machine) → Shows machine → unread ≡ unread_in_folder machine folder)
-    → IsMore Knows (λ machine path. map (FolderUnit folder) stems) old mid
-    → IsMore (λ machine path. ⊤) (λ machine path. map UnreadPath unread) mid new
-    → IsMore (λ machine path. Shows machine) (λ machine path. sought_in machine folder) old new
+    → IsMore Knows (λ machine search_path. map (FolderUnit folder) stems) old mid
+    → IsMore (λ machine search_path. ⊤) (λ machine search_path. map UnreadPath unread) mid new
+    → IsMore (λ machine search_path. Shows machine) (λ machine search_path. sought_in machine folder) old new
 folder_more Knows Shows folder stems unread old mid new known stems_are unread_are h k =
-    let Now : Machine → List (List ℕ) → Type 0 = λ machine path. Shows machine in
-    let Always : Machine → List (List ℕ) → Type 0 = λ machine path. ⊤ in
-    more_as Now Now (λ machine path. map (FolderUnit folder) stems ++ map UnreadPath unread) (λ machine path. sought_in machine folder) old new
-    (λ machine path now. now)
-    (λ machine path now.
+    let Now : Machine → List (List ℕ) → Type 0 = λ machine search_path. Shows machine in
+    let Always : Machine → List (List ℕ) → Type 0 = λ machine search_path. ⊤ in
+    more_as Now Now (λ machine search_path. map (FolderUnit folder) stems ++ map UnreadPath unread) (λ machine search_path. sought_in machine folder) old new
+    (λ machine search_path now. now)
+    (λ machine search_path now.
     ap (λ stems. map (FolderUnit folder) stems ++ map UnreadPath unread) (stems_are machine now)
     ∙ ap (λ unread. map (FolderUnit folder) (units_in_folder machine folder) ++ map UnreadPath unread) (unread_are machine now))
-    (more_both Knows Now (λ machine path. map (FolderUnit folder) stems) (λ machine path. map UnreadPath unread) old mid new known h
-    (more_as Always Now (λ machine path. map UnreadPath unread) (λ machine path. map UnreadPath unread) mid new (λ machine path now. tt) (λ machine path now. refl) k))
+    (more_both Knows Now (λ machine search_path. map (FolderUnit folder) stems) (λ machine search_path. map UnreadPath unread) old mid new known h
+    (more_as Always Now (λ machine search_path. map UnreadPath unread) (λ machine search_path. map UnreadPath unread) mid new (λ machine search_path now. tt) (λ machine search_path now. refl) k))
 
 -- if `IsMore` holds for the first `i` targets, and then for the next one, it holds for the first `i + 1`
 pub target_more : (Knows Now : Machine → List (List ℕ) → Type 0) (targets : List (Bor (List ℕ))) (i : ℕ) (target other : Bor (List ℕ)) (old mid new : Loaded)
-    → ((machine : Machine) (path : List (List ℕ)) → Now machine path → Knows machine path) → i < length targets → target.now ≡ (get_or targets i other).now
-    → IsMore Knows (λ machine path. flat_map (sought_by machine) (map (λ target. target.now) (take i targets))) old mid
-    → IsMore Now (λ machine path. sought_by machine target.now) mid new
-    → IsMore Now (λ machine path. flat_map (sought_by machine) (map (λ target. target.now) (take (i + 1) targets))) old new
+    → ((machine : Machine) (search_path : List (List ℕ)) → Now machine search_path → Knows machine search_path) → i < length targets → target.now ≡ (get_or targets i other).now
+    → IsMore Knows (λ machine search_path. flat_map (sought_by machine) (map (λ target. target.now) (take i targets))) old mid
+    → IsMore Now (λ machine search_path. sought_by machine target.now) mid new
+    → IsMore Now (λ machine search_path. flat_map (sought_by machine) (map (λ target. target.now) (take (i + 1) targets))) old new
 target_more Knows Now targets i target other old mid new known within is h k =
     let before : Machine → List Sought = λ machine. flat_map (sought_by machine) (map (λ target. target.now) (take i targets)) in
-    more_as Now Now (λ machine path. before machine ++ sought_by machine target.now) (λ machine path. flat_map (sought_by machine) (map (λ target. target.now) (take (i + 1) targets))) old new
-    (λ machine path now. now)
-    (λ machine path now.
+    more_as Now Now (λ machine search_path. before machine ++ sought_by machine target.now) (λ machine search_path. flat_map (sought_by machine) (map (λ target. target.now) (take (i + 1) targets))) old new
+    (λ machine search_path now. now)
+    (λ machine search_path now.
     ap (λ name. before machine ++ sought_by machine name) is
     ∙ flat_map_more (sought_by machine) [] (map (λ target. target.now) (take i targets)) (get_or targets i other).now
     ∙ ap (flat_map (sought_by machine)) (sym (map-append (λ target. target.now) (take i targets) (get_or targets i other ∷ []))
     ∙ ap (map (λ target. target.now)) (sym (take_more targets i other within))))
-    (more_both Knows Now (λ machine path. before machine) (λ machine path. sought_by machine target.now) old mid new known h k)
+    (more_both Knows Now (λ machine search_path. before machine) (λ machine search_path. sought_by machine target.now) old mid new known h k)
 
 -- ## Kinds of targets
 

@@ -66,13 +66,13 @@ pub fn load_files<T: Tree>(
 ) -> Result<LoadedFiles, AllocError>
     ensures known { IfOk result (λ loaded. (machine : Machine) → T.shows tree.new machine
         → All (IsStoredOn machine) loaded.files.items) }
-    ensures whole { targets.now ≡ [] → IfOk result (λ loaded. (machine : Machine) (path : List (List ℕ)) → T.shows tree.new machine
-        → IsIndexOf machine path index.now → AreTextsAt machine (all_paths machine path is_all) loaded.files.items
-        × AreFaultsOf (all_lost machine path is_all) loaded.faults.items) }
-    ensures targets { targets.now ≢ [] → IfOk result (λ loaded. (machine : Machine) (path : List (List ℕ)) → T.shows tree.new machine
-        → IsIndexOf machine path index.now
-        → AreTextsAt machine (flat_map (paths_by machine path) (map (λ target. target.now) targets.now)) loaded.files.items
-        × AreFaultsOf (flat_map (lost_by machine path) (map (λ target. target.now) targets.now)) loaded.faults.items) }
+    ensures whole { targets.now ≡ [] → IfOk result (λ loaded. (machine : Machine) (search_path : List (List ℕ)) → T.shows tree.new machine
+        → IsIndexOf machine search_path index.now → AreTextsAt machine (all_paths machine search_path is_all) loaded.files.items
+        × AreFaultsOf (all_lost machine search_path is_all) loaded.faults.items) }
+    ensures targets { targets.now ≢ [] → IfOk result (λ loaded. (machine : Machine) (search_path : List (List ℕ)) → T.shows tree.new machine
+        → IsIndexOf machine search_path index.now
+        → AreTextsAt machine (flat_map (paths_by machine search_path) (map (λ target. target.now) targets.now)) loaded.files.items
+        × AreFaultsOf (flat_map (lost_by machine search_path) (map (λ target. target.now) targets.now)) loaded.faults.items) }
     ensures grows { (machine : Machine) → T.shows tree.new machine → T.shows tree.old machine }
 {
     if targets.is_empty() {
@@ -94,9 +94,9 @@ fn all_files<T: Tree>(
 ) -> Result<LoadedFiles, AllocError>
     ensures known { IfOk result (λ loaded. (machine : Machine) → T.shows tree.new machine
         → All (IsStoredOn machine) loaded.files.items) }
-    ensures whole { IfOk result (λ loaded. (machine : Machine) (path : List (List ℕ)) → T.shows tree.new machine
-        → IsIndexOf machine path index.now → AreTextsAt machine (all_paths machine path is_all) loaded.files.items
-        × AreFaultsOf (all_lost machine path is_all) loaded.faults.items) }
+    ensures whole { IfOk result (λ loaded. (machine : Machine) (search_path : List (List ℕ)) → T.shows tree.new machine
+        → IsIndexOf machine search_path index.now → AreTextsAt machine (all_paths machine search_path is_all) loaded.files.items
+        × AreFaultsOf (all_lost machine search_path is_all) loaded.faults.items) }
     ensures grows { (machine : Machine) → T.shows tree.new machine → T.shows tree.old machine }
 {
     let Units {
@@ -152,9 +152,9 @@ impl Reading {
         stems: BTreeSet<String>,
     ) -> Result<(), AllocError>
         ensures tried { OnOk result ((machine : Machine) → T.shows tree.new machine → HasTried machine self.old → HasTried machine self.new) }
-        ensures read { OnOk result ((machine : Machine) (path : List (List ℕ)) → T.shows tree.new machine → IsIndexOf machine path index.now
-            → AreReadAlso machine (flat_map (unit_paths machine path) (map string_bytes stems.keys))
-            (flat_map (lost_listed machine path) (map string_bytes stems.keys)) self.old self.new) }
+        ensures read { OnOk result ((machine : Machine) (search_path : List (List ℕ)) → T.shows tree.new machine → IsIndexOf machine search_path index.now
+            → AreReadAlso machine (flat_map (unit_paths machine search_path) (map string_bytes stems.keys))
+            (flat_map (lost_listed machine search_path) (map string_bytes stems.keys)) self.old self.new) }
         ensures grows { (machine : Machine) → T.shows tree.new machine → T.shows tree.old machine }
     {
         for stem in stems {
@@ -173,8 +173,8 @@ impl Reading {
         stem: &str,
     ) -> Result<(), AllocError>
         ensures tried { OnOk result ((machine : Machine) → T.shows tree.new machine → HasTried machine self.old → HasTried machine self.new) }
-        ensures read { OnOk result ((machine : Machine) (path : List (List ℕ)) → T.shows tree.new machine → IsIndexOf machine path index.now
-            → AreReadAlso machine (unit_paths machine path stem.now) (lost_listed machine path stem.now) self.old self.new) }
+        ensures read { OnOk result ((machine : Machine) (search_path : List (List ℕ)) → T.shows tree.new machine → IsIndexOf machine search_path index.now
+            → AreReadAlso machine (unit_paths machine search_path stem.now) (lost_listed machine search_path stem.now) self.old self.new) }
         ensures grows { (machine : Machine) → T.shows tree.new machine → T.shows tree.old machine }
     {
         let Some(reason) = self.take_unit(alloc, tree, index, stem)? else {
@@ -197,8 +197,8 @@ impl Reading {
         target: &str,
     ) -> Result<(), AllocError>
         ensures tried { OnOk result ((machine : Machine) → T.shows tree.new machine → HasTried machine self.old → HasTried machine self.new) }
-        ensures read { OnOk result ((machine : Machine) (path : List (List ℕ)) → T.shows tree.new machine → IsIndexOf machine path index.now
-            → AreReadAlso machine (paths_by machine path target.now) (lost_by machine path target.now) self.old self.new) }
+        ensures read { OnOk result ((machine : Machine) (search_path : List (List ℕ)) → T.shows tree.new machine → IsIndexOf machine search_path index.now
+            → AreReadAlso machine (paths_by machine search_path target.now) (lost_by machine search_path target.now) self.old self.new) }
         ensures grows { (machine : Machine) → T.shows tree.new machine → T.shows tree.old machine }
     {
         if !is_path(target) {
@@ -220,8 +220,8 @@ impl Reading {
         name: &str,
     ) -> Result<(), AllocError>
         ensures tried { OnOk result ((machine : Machine) → T.shows tree.new machine → HasTried machine self.old → HasTried machine self.new) }
-        ensures read { OnOk result ((machine : Machine) (path : List (List ℕ)) → T.shows tree.new machine → IsIndexOf machine path index.now
-            → AreReadAlso machine (paths_if_valid machine path (unit_stem name.now)) (lost_named machine path name.now) self.old self.new) }
+        ensures read { OnOk result ((machine : Machine) (search_path : List (List ℕ)) → T.shows tree.new machine → IsIndexOf machine search_path index.now
+            → AreReadAlso machine (paths_if_valid machine search_path (unit_stem name.now)) (lost_named machine search_path name.now) self.old self.new) }
         ensures grows { (machine : Machine) → T.shows tree.new machine → T.shows tree.old machine }
     {
         let Some(stem) = unit_stem(name) else {
@@ -243,9 +243,9 @@ impl Reading {
         asked: &str,
     ) -> Result<Option<TargetReason>, AllocError>
         ensures tried { OnOk result ((machine : Machine) → T.shows tree.new machine → HasTried machine self.old → HasTried machine self.new) }
-        ensures read { IfOk result (λ reason. (machine : Machine) (path : List (List ℕ)) → T.shows tree.new machine → IsIndexOf machine path index.now
-            → AreReadFor machine (unit_paths machine path asked.now) (lost_of_unit machine path asked.now (unit_on machine path asked.now))
-            (cause_of_unit machine (unit_on machine path asked.now)) reason self.old self.new) }
+        ensures read { IfOk result (λ reason. (machine : Machine) (search_path : List (List ℕ)) → T.shows tree.new machine → IsIndexOf machine search_path index.now
+            → AreReadFor machine (unit_paths machine search_path asked.now) (lost_of_unit machine search_path asked.now (unit_on machine search_path asked.now))
+            (cause_of_unit machine (unit_on machine search_path asked.now)) reason self.old self.new) }
         ensures grows { (machine : Machine) → T.shows tree.new machine → T.shows tree.old machine }
     {
         match find_unit(alloc, index, asked)? {
@@ -267,10 +267,10 @@ impl Reading {
         file: &UnitFile,
     ) -> Result<Option<TargetReason>, AllocError>
         ensures tried { OnOk result ((machine : Machine) → T.shows tree.new machine → HasTried machine self.old → HasTried machine self.new) }
-        ensures read { IfOk result (λ reason. (machine : Machine) (path : List (List ℕ)) (unit : FoundUnit) → T.shows tree.new machine
-            → IsIndexOf machine path index.now
+        ensures read { IfOk result (λ reason. (machine : Machine) (search_path : List (List ℕ)) (unit : FoundUnit) → T.shows tree.new machine
+            → IsIndexOf machine search_path index.now
             → FoundAt (string_bytes file.now.path) (string_bytes file.now.file) (string_bytes file.now.stem) ≡ unit
-            → AreReadFor machine (paths_of_unit machine path asked.now unit) (lost_of_unit machine path asked.now unit)
+            → AreReadFor machine (paths_of_unit machine search_path asked.now unit) (lost_of_unit machine search_path asked.now unit)
             (cause_of_unit machine unit) reason self.old self.new) }
         ensures grows { (machine : Machine) → T.shows tree.new machine → T.shows tree.old machine }
     {
@@ -297,10 +297,10 @@ impl Reading {
         file: &UnitFile,
     ) -> Result<(), AllocError>
         ensures tried { OnOk result ((machine : Machine) → T.shows tree.new machine → HasTried machine self.old → HasTried machine self.new) }
-        ensures read { OnOk result ((machine : Machine) (path : List (List ℕ)) → T.shows tree.new machine
-            → IsIndexOf machine path index.now
-            → let names = names_on machine path (string_bytes file.now.file) (string_bytes file.now.stem) asked.now in
-            AreReadAlso machine (drop_ins machine path UnitType.Timer names) (lost_drop_ins machine path names) self.old self.new) }
+        ensures read { OnOk result ((machine : Machine) (search_path : List (List ℕ)) → T.shows tree.new machine
+            → IsIndexOf machine search_path index.now
+            → let names = names_on machine search_path (string_bytes file.now.file) (string_bytes file.now.stem) asked.now in
+            AreReadAlso machine (drop_ins machine search_path UnitType.Timer names) (lost_drop_ins machine search_path names) self.old self.new) }
         ensures grows { (machine : Machine) → T.shows tree.new machine → T.shows tree.old machine }
     {
         let names = names_of(alloc, index, file, asked)?;

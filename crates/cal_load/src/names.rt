@@ -41,12 +41,12 @@ pub(crate) fn units_in<T: Tree>(
     index: &UnitIndex,
     is_all: bool,
 ) -> Result<Units, AllocError>
-    ensures stems { IfOk result (λ units. (machine : Machine) (path : List (List ℕ)) → T.shows tree.new machine
-        → IsIndexOf machine path index.now → map string_bytes units.stems.keys ≡ units_on machine path is_all) }
-    ensures started { IfOk result (λ units. (machine : Machine) (path : List (List ℕ)) → T.shows tree.new machine
-        → IsIndexOf machine path index.now → shown_stems units.started ≡ started_if_all machine path is_all) }
-    ensures unreadable { IfOk result (λ units. (machine : Machine) (path : List (List ℕ)) → T.shows tree.new machine
-        → IsIndexOf machine path index.now → map shown_fault units.unreadable.items ≡ unreadable_wants machine path) }
+    ensures stems { IfOk result (λ units. (machine : Machine) (search_path : List (List ℕ)) → T.shows tree.new machine
+        → IsIndexOf machine search_path index.now → map string_bytes units.stems.keys ≡ units_on machine search_path is_all) }
+    ensures started { IfOk result (λ units. (machine : Machine) (search_path : List (List ℕ)) → T.shows tree.new machine
+        → IsIndexOf machine search_path index.now → shown_stems units.started ≡ started_if_all machine search_path is_all) }
+    ensures unreadable { IfOk result (λ units. (machine : Machine) (search_path : List (List ℕ)) → T.shows tree.new machine
+        → IsIndexOf machine search_path index.now → map shown_fault units.unreadable.items ≡ unreadable_wants machine search_path) }
     ensures grows { (machine : Machine) → T.shows tree.new machine → T.shows tree.old machine }
 {
     let Started { stems, unreadable } = find_started(alloc, tree, index)?;
@@ -73,8 +73,8 @@ fn own_stems(
     index: &UnitIndex,
     stems: &BTreeSet<String>,
 ) -> Result<BTreeSet<String>, AllocError>
-    ensures known { IfOk result (λ found. (machine : Machine) (path : List (List ℕ)) → IsIndexOf machine path index.now
-        → map string_bytes found.keys ≡ own_stems machine path (map string_bytes stems.now.keys)) }
+    ensures known { IfOk result (λ found. (machine : Machine) (search_path : List (List ℕ)) → IsIndexOf machine search_path index.now
+        → map string_bytes found.keys ≡ own_stems machine search_path (map string_bytes stems.now.keys)) }
 {
     let mut found = BTreeSet::new(alloc);
     add_all_own(alloc, &mut found, index, stems)?;
@@ -88,9 +88,9 @@ fn add_all_own(
     index: &UnitIndex,
     stems: &BTreeSet<String>,
 ) -> Result<(), AllocError>
-    ensures known { OnOk result ((machine : Machine) (path : List (List ℕ)) → IsIndexOf machine path index.now
+    ensures known { OnOk result ((machine : Machine) (search_path : List (List ℕ)) → IsIndexOf machine search_path index.now
         → map string_bytes found.new.keys
-        ≡ with_texts (map string_bytes found.old.keys) (filter_map (main_stem machine path) (map string_bytes stems.now.keys))) }
+        ≡ with_texts (map string_bytes found.old.keys) (filter_map (main_stem machine search_path) (map string_bytes stems.now.keys))) }
 {
     for stem in stems.iter() {
         add_own(alloc, found, index, stem.as_str())?;
@@ -105,9 +105,9 @@ fn add_own(
     index: &UnitIndex,
     stem: &str,
 ) -> Result<(), AllocError>
-    ensures known { OnOk result ((machine : Machine) (path : List (List ℕ)) → IsIndexOf machine path index.now
+    ensures known { OnOk result ((machine : Machine) (search_path : List (List ℕ)) → IsIndexOf machine search_path index.now
         → map string_bytes found.new.keys
-        ≡ with_texts (map string_bytes found.old.keys) (option_to_list (main_stem machine path stem.now))) }
+        ≡ with_texts (map string_bytes found.old.keys) (option_to_list (main_stem machine search_path stem.now))) }
 {
     if let Unit::Found(file) = find_unit(alloc, index, stem)? {
         add_stem(found, file.stem)?;

@@ -46,8 +46,8 @@ pub fn asks_due<T: Tree>(
     stem: &str,
     is_user: bool,
 ) -> Result<bool, AllocError>
-    ensures known { IfOk result (λ asks. (machine : Machine) (path : List (List ℕ)) → T.shows tree.new machine
-        → IsIndexOf machine path index.now → asks ≡ asks_due_on machine path is_user stem.now) }
+    ensures known { IfOk result (λ asks. (machine : Machine) (search_path : List (List ℕ)) → T.shows tree.new machine
+        → IsIndexOf machine search_path index.now → asks ≡ asks_due_on machine search_path is_user stem.now) }
     ensures grows { (machine : Machine) → T.shows tree.new machine → T.shows tree.old machine }
 {
     let paths = service_paths(alloc, tree, index, stem)?;
@@ -63,8 +63,8 @@ fn service_paths<T: Tree>(
     index: &UnitIndex,
     stem: &str,
 ) -> Result<Vec<String>, AllocError>
-    ensures known { IfOk result (λ paths. (machine : Machine) (path : List (List ℕ)) → T.shows tree.new machine
-        → IsIndexOf machine path index.now → map string_bytes paths.items ≡ service_paths machine path stem.now) }
+    ensures known { IfOk result (λ paths. (machine : Machine) (search_path : List (List ℕ)) → T.shows tree.new machine
+        → IsIndexOf machine search_path index.now → map string_bytes paths.items ≡ service_paths machine search_path stem.now) }
     ensures grows { (machine : Machine) → T.shows tree.new machine → T.shows tree.old machine }
 {
     let mut paths = own_paths(alloc, index.folders(), stem)?;

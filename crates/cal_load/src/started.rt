@@ -134,8 +134,8 @@ fn argument_of(own: &str) -> &str
 ///
 /// Fails only if allocation fails.
 pub fn is_missing(alloc: Global, index: &UnitIndex, unit: &str) -> Result<bool, AllocError>
-    ensures { IfOk result (λ missing. (machine : Machine) (path : List (List ℕ)) → IsIndexOf machine path index.now
-        → missing ≡ is_missing_on machine path unit.now) }
+    ensures { IfOk result (λ missing. (machine : Machine) (search_path : List (List ℕ)) → IsIndexOf machine search_path index.now
+        → missing ≡ is_missing_on machine search_path unit.now) }
 {
     is_missing_in(alloc, index.folders(), unit)
 }

@@ -49,14 +49,14 @@ pub fn load_timers<T: Tree>(
     targets: &[&str],
     is_all: bool,
 ) -> Result<Loaded, AllocError>
-    ensures known { IfOk result (λ loaded. (machine : Machine) (path : List (List ℕ)) → T.shows tree.new machine
-        → IsIndexOf machine path index.now → All (IsTimerOn machine path) loaded.timers.items) }
-    ensures whole { targets.now ≡ [] → IfOk result (HasAllUnits (λ machine path. T.shows tree.new machine × IsIndexOf machine path index.now) is_all) }
-    ensures started { targets.now ≡ [] → IfOk result (λ loaded. (machine : Machine) (path : List (List ℕ)) → T.shows tree.new machine
-        → IsIndexOf machine path index.now → shown_stems loaded.started ≡ started_if_all machine path is_all) }
-    ensures unreadable { targets.now ≡ [] → IfOk result (λ loaded. (machine : Machine) (path : List (List ℕ)) → T.shows tree.new machine
-        → IsIndexOf machine path index.now → All (IsLostIn loaded.faults.items) (lost_starts machine path)) }
-    ensures targets { targets.now ≢ [] → IfOk result (HasAllTargets (λ machine path. T.shows tree.new machine × IsIndexOf machine path index.now)
+    ensures known { IfOk result (λ loaded. (machine : Machine) (search_path : List (List ℕ)) → T.shows tree.new machine
+        → IsIndexOf machine search_path index.now → All (IsTimerOn machine search_path) loaded.timers.items) }
+    ensures whole { targets.now ≡ [] → IfOk result (HasAllUnits (λ machine search_path. T.shows tree.new machine × IsIndexOf machine search_path index.now) is_all) }
+    ensures started { targets.now ≡ [] → IfOk result (λ loaded. (machine : Machine) (search_path : List (List ℕ)) → T.shows tree.new machine
+        → IsIndexOf machine search_path index.now → shown_stems loaded.started ≡ started_if_all machine search_path is_all) }
+    ensures unreadable { targets.now ≡ [] → IfOk result (λ loaded. (machine : Machine) (search_path : List (List ℕ)) → T.shows tree.new machine
+        → IsIndexOf machine search_path index.now → All (IsLostIn loaded.faults.items) (lost_starts machine search_path)) }
+    ensures targets { targets.now ≢ [] → IfOk result (HasAllTargets (λ machine search_path. T.shows tree.new machine × IsIndexOf machine search_path index.now)
         (map (λ target. target.now) targets.now)) }
     ensures grows { (machine : Machine) → T.shows tree.new machine → T.shows tree.old machine }
 {
@@ -77,13 +77,13 @@ fn load_all<T: Tree>(
     index: &UnitIndex,
     is_all: bool,
 ) -> Result<Loaded, AllocError>
-    ensures whole { IfOk result (HasAllUnits (λ machine path. T.shows tree.new machine × IsIndexOf machine path index.now) is_all) }
-    ensures started { IfOk result (λ loaded. (machine : Machine) (path : List (List ℕ)) → T.shows tree.new machine
-        → IsIndexOf machine path index.now → shown_stems loaded.started ≡ started_if_all machine path is_all) }
-    ensures unreadable { IfOk result (λ loaded. (machine : Machine) (path : List (List ℕ)) → T.shows tree.new machine
-        → IsIndexOf machine path index.now → All (IsLostIn loaded.faults.items) (lost_starts machine path)) }
-    ensures known { IfOk result (λ loaded. (machine : Machine) (path : List (List ℕ)) → T.shows tree.new machine
-        → IsIndexOf machine path index.now → All (IsTimerOn machine path) loaded.timers.items) }
+    ensures whole { IfOk result (HasAllUnits (λ machine search_path. T.shows tree.new machine × IsIndexOf machine search_path index.now) is_all) }
+    ensures started { IfOk result (λ loaded. (machine : Machine) (search_path : List (List ℕ)) → T.shows tree.new machine
+        → IsIndexOf machine search_path index.now → shown_stems loaded.started ≡ started_if_all machine search_path is_all) }
+    ensures unreadable { IfOk result (λ loaded. (machine : Machine) (search_path : List (List ℕ)) → T.shows tree.new machine
+        → IsIndexOf machine search_path index.now → All (IsLostIn loaded.faults.items) (lost_starts machine search_path)) }
+    ensures known { IfOk result (λ loaded. (machine : Machine) (search_path : List (List ℕ)) → T.shows tree.new machine
+        → IsIndexOf machine search_path index.now → All (IsTimerOn machine search_path) loaded.timers.items) }
     ensures grows { (machine : Machine) → T.shows tree.new machine → T.shows tree.old machine }
 {
     let Units {
@@ -108,11 +108,11 @@ fn load_listed<T: Tree>(
     stem: &str,
     loaded: &mut Loaded,
 ) -> Result<(), AllocError>
-    ensures more { OnOk result (IsMore (λ machine path. T.shows tree.new machine × IsIndexOf machine path index.now)
-        (λ machine path. ListedUnit stem.now ∷ []) loaded.old loaded.new) }
-    ensures known { OnOk result ((machine : Machine) (path : List (List ℕ)) → T.shows tree.new machine
-        → IsIndexOf machine path index.now → All (IsTimerOn machine path) loaded.old.timers.items
-        → All (IsTimerOn machine path) loaded.new.timers.items) }
+    ensures more { OnOk result (IsMore (λ machine search_path. T.shows tree.new machine × IsIndexOf machine search_path index.now)
+        (λ machine search_path. ListedUnit stem.now ∷ []) loaded.old loaded.new) }
+    ensures known { OnOk result ((machine : Machine) (search_path : List (List ℕ)) → T.shows tree.new machine
+        → IsIndexOf machine search_path index.now → All (IsTimerOn machine search_path) loaded.old.timers.items
+        → All (IsTimerOn machine search_path) loaded.new.timers.items) }
     ensures grows { (machine : Machine) → T.shows tree.new machine → T.shows tree.old machine }
 {
     let mut lost = Vec::new(alloc);
@@ -151,11 +151,11 @@ fn load_target<T: Tree>(
     target: &str,
     loaded: &mut Loaded,
 ) -> Result<(), AllocError>
-    ensures more { OnOk result (IsMore (λ machine path. T.shows tree.new machine × IsIndexOf machine path index.now)
-        (λ machine path. sought_by machine target.now) loaded.old loaded.new) }
-    ensures known { OnOk result ((machine : Machine) (path : List (List ℕ)) → T.shows tree.new machine
-        → IsIndexOf machine path index.now → All (IsTimerOn machine path) loaded.old.timers.items
-        → All (IsTimerOn machine path) loaded.new.timers.items) }
+    ensures more { OnOk result (IsMore (λ machine search_path. T.shows tree.new machine × IsIndexOf machine search_path index.now)
+        (λ machine search_path. sought_by machine target.now) loaded.old loaded.new) }
+    ensures known { OnOk result ((machine : Machine) (search_path : List (List ℕ)) → T.shows tree.new machine
+        → IsIndexOf machine search_path index.now → All (IsTimerOn machine search_path) loaded.old.timers.items
+        → All (IsTimerOn machine search_path) loaded.new.timers.items) }
     ensures grows { (machine : Machine) → T.shows tree.new machine → T.shows tree.old machine }
 {
     if is_path(target) {
@@ -174,10 +174,10 @@ fn read_named<T: Tree>(
     name: &str,
     lost: &mut Vec<UnitFault>,
 ) -> Result<LoadedTarget, TargetLoadFault>
-    ensures known { IfOk result (λ found. (machine : Machine) (path : List (List ℕ)) → T.shows tree.new machine
-        → IsIndexOf machine path index.now → IsLoadedTarget machine path found) }
-    ensures found { (machine : Machine) (path : List (List ℕ)) → T.shows tree.new machine
-        → IsIndexOf machine path index.now → IsFoundIfValid machine path (unit_stem name.now) result }
+    ensures known { IfOk result (λ found. (machine : Machine) (search_path : List (List ℕ)) → T.shows tree.new machine
+        → IsIndexOf machine search_path index.now → IsLoadedTarget machine search_path found) }
+    ensures found { (machine : Machine) (search_path : List (List ℕ)) → T.shows tree.new machine
+        → IsIndexOf machine search_path index.now → IsFoundIfValid machine search_path (unit_stem name.now) result }
     ensures grows { (machine : Machine) → T.shows tree.new machine → T.shows tree.old machine }
 {
     match unit_stem(name) {
@@ -193,10 +193,10 @@ fn load_path<T: Tree>(
     target: &str,
     loaded: &mut Loaded,
 ) -> Result<(), AllocError>
-    ensures more { OnOk result (IsMore (λ machine path. T.shows tree.new machine)
-        (λ machine path. sought_at machine target.now) loaded.old loaded.new) }
-    ensures known { OnOk result ((machine : Machine) (path : List (List ℕ)) → T.shows tree.new machine
-        → All (IsTimerOn machine path) loaded.old.timers.items → All (IsTimerOn machine path) loaded.new.timers.items) }
+    ensures more { OnOk result (IsMore (λ machine search_path. T.shows tree.new machine)
+        (λ machine search_path. sought_at machine target.now) loaded.old loaded.new) }
+    ensures known { OnOk result ((machine : Machine) (search_path : List (List ℕ)) → T.shows tree.new machine
+        → All (IsTimerOn machine search_path) loaded.old.timers.items → All (IsTimerOn machine search_path) loaded.new.timers.items) }
     ensures grows { (machine : Machine) → T.shows tree.new machine → T.shows tree.old machine }
 {
     if is_folder(alloc, tree, target)? {
@@ -212,10 +212,10 @@ fn load_file<T: Tree>(
     path: &str,
     loaded: &mut Loaded,
 ) -> Result<(), AllocError>
-    ensures more { OnOk result (IsMore (λ machine path. T.shows tree.new machine)
-        (λ machine search. SingleFile path.now ∷ []) loaded.old loaded.new) }
-    ensures known { OnOk result ((machine : Machine) (path : List (List ℕ)) → T.shows tree.new machine
-        → All (IsTimerOn machine path) loaded.old.timers.items → All (IsTimerOn machine path) loaded.new.timers.items) }
+    ensures more { OnOk result (IsMore (λ machine search_path. T.shows tree.new machine)
+        (λ machine search_path. SingleFile path.now ∷ []) loaded.old loaded.new) }
+    ensures known { OnOk result ((machine : Machine) (search_path : List (List ℕ)) → T.shows tree.new machine
+        → All (IsTimerOn machine search_path) loaded.old.timers.items → All (IsTimerOn machine search_path) loaded.new.timers.items) }
     ensures grows { (machine : Machine) → T.shows tree.new machine → T.shows tree.old machine }
 {
     let found = read_timer_file(alloc, tree, path);
@@ -229,10 +229,10 @@ fn load_folder<T: Tree>(
     folder: &str,
     loaded: &mut Loaded,
 ) -> Result<(), AllocError>
-    ensures more { OnOk result (IsMore (λ machine path. T.shows tree.new machine)
-        (λ machine path. sought_in machine folder.now) loaded.old loaded.new) }
-    ensures known { OnOk result ((machine : Machine) (path : List (List ℕ)) → T.shows tree.new machine
-        → All (IsTimerOn machine path) loaded.old.timers.items → All (IsTimerOn machine path) loaded.new.timers.items) }
+    ensures more { OnOk result (IsMore (λ machine search_path. T.shows tree.new machine)
+        (λ machine search_path. sought_in machine folder.now) loaded.old loaded.new) }
+    ensures known { OnOk result ((machine : Machine) (search_path : List (List ℕ)) → T.shows tree.new machine
+        → All (IsTimerOn machine search_path) loaded.old.timers.items → All (IsTimerOn machine search_path) loaded.new.timers.items) }
     ensures grows { (machine : Machine) → T.shows tree.new machine → T.shows tree.old machine }
 {
     let FolderUnits {
@@ -253,11 +253,11 @@ fn load_folder_units<T: Tree>(
     stems: BTreeSet<String>,
     loaded: &mut Loaded,
 ) -> Result<(), AllocError>
-    ensures more { OnOk result (IsMore (λ machine path. T.shows tree.new machine × IsIndexOf machine (folder.now ∷ []) index.now)
-        (λ machine path. map (FolderUnit folder.now) (map string_bytes stems.keys)) loaded.old loaded.new) }
-    ensures known { OnOk result ((machine : Machine) (path : List (List ℕ)) → T.shows tree.new machine
-        → IsIndexOf machine (folder.now ∷ []) index.now → All (IsTimerOn machine path) loaded.old.timers.items
-        → All (IsTimerOn machine path) loaded.new.timers.items) }
+    ensures more { OnOk result (IsMore (λ machine search_path. T.shows tree.new machine × IsIndexOf machine (folder.now ∷ []) index.now)
+        (λ machine search_path. map (FolderUnit folder.now) (map string_bytes stems.keys)) loaded.old loaded.new) }
+    ensures known { OnOk result ((machine : Machine) (search_path : List (List ℕ)) → T.shows tree.new machine
+        → IsIndexOf machine (folder.now ∷ []) index.now → All (IsTimerOn machine search_path) loaded.old.timers.items
+        → All (IsTimerOn machine search_path) loaded.new.timers.items) }
     ensures grows { (machine : Machine) → T.shows tree.new machine → T.shows tree.old machine }
 {
     for stem in stems {
@@ -275,11 +275,11 @@ fn load_folder_unit<T: Tree>(
     stem: &str,
     loaded: &mut Loaded,
 ) -> Result<(), AllocError>
-    ensures more { OnOk result (IsMore (λ machine path. T.shows tree.new machine × IsIndexOf machine (folder.now ∷ []) index.now)
-        (λ machine path. FolderUnit folder.now stem.now ∷ []) loaded.old loaded.new) }
-    ensures known { OnOk result ((machine : Machine) (path : List (List ℕ)) → T.shows tree.new machine
-        → IsIndexOf machine (folder.now ∷ []) index.now → All (IsTimerOn machine path) loaded.old.timers.items
-        → All (IsTimerOn machine path) loaded.new.timers.items) }
+    ensures more { OnOk result (IsMore (λ machine search_path. T.shows tree.new machine × IsIndexOf machine (folder.now ∷ []) index.now)
+        (λ machine search_path. FolderUnit folder.now stem.now ∷ []) loaded.old loaded.new) }
+    ensures known { OnOk result ((machine : Machine) (search_path : List (List ℕ)) → T.shows tree.new machine
+        → IsIndexOf machine (folder.now ∷ []) index.now → All (IsTimerOn machine search_path) loaded.old.timers.items
+        → All (IsTimerOn machine search_path) loaded.new.timers.items) }
     ensures grows { (machine : Machine) → T.shows tree.new machine → T.shows tree.old machine }
 {
     let mut lost = Vec::new(alloc);
@@ -298,8 +298,8 @@ fn unit_path(alloc: Global, folder: &str, stem: &str) -> Result<String, AllocErr
 
 /// Adds an error for each path that can't be read.
 fn push_unread(alloc: Global, loaded: &mut Loaded, unread: Vec<UnitFault>) -> Result<(), AllocError>
-    ensures more { OnOk result (IsMore (λ machine path. ⊤)
-        (λ machine path. map UnreadPath (map shown_fault unread.items)) loaded.old loaded.new) }
+    ensures more { OnOk result (IsMore (λ machine search_path. ⊤)
+        (λ machine search_path. map UnreadPath (map shown_fault unread.items)) loaded.old loaded.new) }
     ensures timers { OnOk result (loaded.new.timers.items ≡ loaded.old.timers.items) }
 {
     for fault in unread {
@@ -310,8 +310,8 @@ fn push_unread(alloc: Global, loaded: &mut Loaded, unread: Vec<UnitFault>) -> Re
 
 /// Adds the error that this path can't be read.
 fn push_unread_path(alloc: Global, loaded: &mut Loaded, fault: &UnitFault) -> Result<(), AllocError>
-    ensures more { OnOk result (IsMore (λ machine path. ⊤)
-        (λ machine path. UnreadPath (shown_fault fault.now) ∷ []) loaded.old loaded.new) }
+    ensures more { OnOk result (IsMore (λ machine search_path. ⊤)
+        (λ machine search_path. UnreadPath (shown_fault fault.now) ∷ []) loaded.old loaded.new) }
     ensures timers { OnOk result (loaded.new.timers.items ≡ loaded.old.timers.items) }
 {
     let path = fault.path.as_str();

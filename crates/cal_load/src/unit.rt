@@ -55,10 +55,10 @@ pub(crate) fn read_unit<T: Tree>(
     asked: &str,
     lost: &mut Vec<UnitFault>,
 ) -> Result<LoadedTarget, TargetLoadFault>
-    ensures known { IfOk result (λ found. (machine : Machine) (path : List (List ℕ)) → T.shows tree.new machine
-        → IsIndexOf machine path index.now → IsLoadedUnit machine path asked.now found) }
-    ensures fault { IfErr result (λ fault. (machine : Machine) (path : List (List ℕ)) → T.shows tree.new machine
-        → IsIndexOf machine path index.now → IsUnitFault machine path asked.now (unit_on machine path asked.now) fault) }
+    ensures known { IfOk result (λ found. (machine : Machine) (search_path : List (List ℕ)) → T.shows tree.new machine
+        → IsIndexOf machine search_path index.now → IsLoadedUnit machine search_path asked.now found) }
+    ensures fault { IfErr result (λ fault. (machine : Machine) (search_path : List (List ℕ)) → T.shows tree.new machine
+        → IsIndexOf machine search_path index.now → IsUnitFault machine search_path asked.now (unit_on machine search_path asked.now) fault) }
     ensures grows { (machine : Machine) → T.shows tree.new machine → T.shows tree.old machine }
 {
     match find_unit(alloc, index, asked)? {
@@ -78,12 +78,12 @@ fn read_found<T: Tree>(
     file: UnitFile,
     lost: &mut Vec<UnitFault>,
 ) -> Result<LoadedTarget, TargetLoadFault>
-    ensures known { IfOk result (λ found. (machine : Machine) (path : List (List ℕ)) → T.shows tree.new machine
-        → IsIndexOf machine path index.now → IsFoundTarget machine path (string_bytes file.path) (string_bytes file.file)
+    ensures known { IfOk result (λ found. (machine : Machine) (search_path : List (List ℕ)) → T.shows tree.new machine
+        → IsIndexOf machine search_path index.now → IsFoundTarget machine search_path (string_bytes file.path) (string_bytes file.file)
         (string_bytes file.stem) asked.now found) }
-    ensures fault { IfErr result (λ fault. (machine : Machine) (path : List (List ℕ)) → T.shows tree.new machine
-        → IsIndexOf machine path index.now → IsFileFault machine (file_at machine (string_bytes file.path)) (string_bytes file.path)
-        (unit_name (string_bytes file.stem)) (unit_texts machine path (string_bytes file.path) (string_bytes file.file) (string_bytes file.stem) asked.now) fault) }
+    ensures fault { IfErr result (λ fault. (machine : Machine) (search_path : List (List ℕ)) → T.shows tree.new machine
+        → IsIndexOf machine search_path index.now → IsFileFault machine (file_at machine (string_bytes file.path)) (string_bytes file.path)
+        (unit_name (string_bytes file.stem)) (unit_texts machine search_path (string_bytes file.path) (string_bytes file.file) (string_bytes file.stem) asked.now) fault) }
     ensures grows { (machine : Machine) → T.shows tree.new machine → T.shows tree.old machine }
 {
     let Some(own) = read_own(alloc, tree, file.path.as_str())? else {
@@ -139,10 +139,10 @@ fn drop_in_texts<T: Tree>(
     file: &UnitFile,
     lost: &mut Vec<UnitFault>,
 ) -> Result<Vec<UnitText>, AllocError>
-    ensures known { IfOk result (λ texts. (machine : Machine) (path : List (List ℕ)) → T.shows tree.new machine
-        → IsIndexOf machine path index.now → map shown_unit_text texts.items
-        ≡ texts_at machine (drop_ins machine path UnitType.Timer
-        (names_on machine path (string_bytes file.now.file) (string_bytes file.now.stem) asked.now))) }
+    ensures known { IfOk result (λ texts. (machine : Machine) (search_path : List (List ℕ)) → T.shows tree.new machine
+        → IsIndexOf machine search_path index.now → map shown_unit_text texts.items
+        ≡ texts_at machine (drop_ins machine search_path UnitType.Timer
+        (names_on machine search_path (string_bytes file.now.file) (string_bytes file.now.stem) asked.now))) }
     ensures grows { (machine : Machine) → T.shows tree.new machine → T.shows tree.old machine }
 {
     let names = names_of(alloc, index, file, asked)?;

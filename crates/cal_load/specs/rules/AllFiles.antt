@@ -34,21 +34,21 @@ is_text (Text bytes) = true
 -- The paths of a unit that was asked for by the stem `asked`: of its own file, and then of its drop-ins. A unit whose
 -- own file is not a text has no drop-ins.
 abbrev pub paths_of_unit : Machine → List (List ℕ) → List ℕ → Unit → List (List ℕ)
-paths_of_unit machine path asked Unfound = []
-paths_of_unit machine path asked TemplateOnly = []
-paths_of_unit machine path asked TooManyAliases = []
-paths_of_unit machine path asked (FoundAt file own_file own) =
-    file ∷ (if is_text (file_at machine file) then drop_ins machine path Timer (names_on machine path own_file own asked) else [])
+paths_of_unit machine search_path asked Unfound = []
+paths_of_unit machine search_path asked TemplateOnly = []
+paths_of_unit machine search_path asked TooManyAliases = []
+paths_of_unit machine search_path asked (FoundAt file own_file own) =
+    file ∷ (if is_text (file_at machine file) then drop_ins machine search_path Timer (names_on machine search_path own_file own asked) else [])
 
 -- the paths of the unit that is found for a stem
 abbrev pub unit_paths : Machine → List (List ℕ) → List ℕ → List (List ℕ)
-unit_paths machine path asked = paths_of_unit machine path asked (unit_on machine path asked)
+unit_paths machine search_path asked = paths_of_unit machine search_path asked (unit_on machine search_path asked)
 
 -- the paths of the unit with this stem; there are none if there is no stem, which means that the unit's name isn't
 -- valid
 abbrev pub paths_if_valid : Machine → List (List ℕ) → Option (List ℕ) → List (List ℕ)
-paths_if_valid machine path None = []
-paths_if_valid machine path (Some stem) = unit_paths machine path stem
+paths_if_valid machine search_path None = []
+paths_if_valid machine search_path (Some stem) = unit_paths machine search_path stem
 
 -- the paths of the files with these names in a folder; there are none if the names in the folder can't be read
 abbrev pub paths_in : List ℕ → Result (List (List ℕ)) Unreadable → List (List ℕ)
@@ -66,12 +66,12 @@ paths_at machine path = if is_folder (end_at machine path) then folder_paths mac
 
 -- the paths that a target stands for
 abbrev pub paths_by : Machine → List (List ℕ) → List ℕ → List (List ℕ)
-paths_by machine path target =
-    if is_path target then paths_at machine (without_slashes target) else paths_if_valid machine path (unit_stem target)
+paths_by machine search_path target =
+    if is_path target then paths_at machine (without_slashes target) else paths_if_valid machine search_path (unit_stem target)
 
 -- the paths that are read without a target: those of all units, or only of the units that other units start
 abbrev pub all_paths : Machine → List (List ℕ) → Bool → List (List ℕ)
-all_paths machine path is_all = flat_map (unit_paths machine path) (units_on machine path is_all)
+all_paths machine search_path is_all = flat_map (unit_paths machine search_path) (units_on machine search_path is_all)
 
 -- ## The files at these paths
 

@@ -132,8 +132,8 @@ name_of (UnreadPath fault) = fault.path
 -- This is a correct result for the unit with this stem. A name that isn't valid has no stem, so no unit is found for
 -- it.
 abbrev pub IsFoundIfValid : Machine → List (List ℕ) → Option (List ℕ) → Result targets.LoadedTarget TargetLoadFault → Type 0
-IsFoundIfValid machine path None found = found ≡ Err (faults.TheVariants.Target NotFound)
-IsFoundIfValid machine path (Some stem) found = IsFoundOf machine path stem found
+IsFoundIfValid machine search_path None found = found ≡ Err (faults.TheVariants.Target NotFound)
+IsFoundIfValid machine search_path (Some stem) found = IsFoundOf machine search_path stem found
 
 -- either a timer was read from the file at this path, and has the path as its name, or this file is a mask
 abbrev pub IsReadAt : Machine → List ℕ → targets.LoadedTarget → Type 0
@@ -152,11 +152,11 @@ IsUnread unread (Err fault) = IsPathFault unread.path unread.reason fault
 
 -- this is a correct result for what was looked for
 abbrev pub IsFound : Machine → List (List ℕ) → Sought → Result targets.LoadedTarget TargetLoadFault → Type 0
-IsFound machine path (ListedUnit stem) found = IsFoundOf machine path stem found
-IsFound machine path (NamedUnit name) found = IsFoundIfValid machine path (unit_stem name) found
-IsFound machine path (SingleFile file) found = IsFoundAt machine file found
-IsFound machine path (FolderUnit folder stem) found = IsFoundOf machine (folder ∷ []) stem found
-IsFound machine path (UnreadPath fault) found = IsUnread fault found
+IsFound machine search_path (ListedUnit stem) found = IsFoundOf machine search_path stem found
+IsFound machine search_path (NamedUnit name) found = IsFoundIfValid machine search_path (unit_stem name) found
+IsFound machine search_path (SingleFile file) found = IsFoundAt machine file found
+IsFound machine search_path (FolderUnit folder stem) found = IsFoundOf machine (folder ∷ []) stem found
+IsFound machine search_path (UnreadPath fault) found = IsUnread fault found
 
 -- what was looked for, and what was found
 pub record Outcome : Type 0 where
@@ -164,7 +164,7 @@ pub record Outcome : Type 0 where
   pub found : Result targets.LoadedTarget TargetLoadFault
 
 abbrev pub IsOutcome : Machine → List (List ℕ) → Outcome → Type 0
-IsOutcome machine path outcome = IsFound machine path outcome.sought outcome.found
+IsOutcome machine search_path outcome = IsFound machine search_path outcome.sought outcome.found
 
 -- Whether no error is reported if there is no file. This is so only for a unit that is loaded because no target is
 -- given: its name in the search path may be a link to nothing.
@@ -198,9 +198,9 @@ pub record AreLoadedFrom (outcomes : List Outcome) (loaded : Loaded) : Type 0 wh
 -- On each machine and search path for which `Knows` holds, each outcome is correct, and there is exactly one for each
 -- element of `sought`, in this order.
 pub record AreOutcomes (Knows : Machine → List (List ℕ) → Type 0) (sought : Machine → List (List ℕ) → List Sought) (outcomes : List Outcome) : Type 0 where
-  pub true_of : (machine : Machine) (path : List (List ℕ)) → Knows machine path → All (IsOutcome machine path) outcomes
-  pub are_all : (machine : Machine) (path : List (List ℕ)) → Knows machine path
-      → map (λ outcome. outcome.sought) outcomes ≡ sought machine path
+  pub true_of : (machine : Machine) (search_path : List (List ℕ)) → Knows machine search_path → All (IsOutcome machine search_path) outcomes
+  pub are_all : (machine : Machine) (search_path : List (List ℕ)) → Knows machine search_path
+      → map (λ outcome. outcome.sought) outcomes ≡ sought machine search_path
 
 -- everything in `sought` was looked for, and nothing else was loaded
 pub record HasAll (Knows : Machine → List (List ℕ) → Type 0) (sought : Machine → List (List ℕ) → List Sought) (loaded : Loaded) : Type 0 where
@@ -210,11 +210,11 @@ pub record HasAll (Knows : Machine → List (List ℕ) → Type 0) (sought : Mac
 
 -- all units that are to be loaded if no target is given were looked for, and nothing else was loaded
 abbrev pub HasAllUnits : (Machine → List (List ℕ) → Type 0) → Bool → Loaded → Type 0
-HasAllUnits Knows is_all loaded = HasAll Knows (λ machine path. map ListedUnit (units_on machine path is_all)) loaded
+HasAllUnits Knows is_all loaded = HasAll Knows (λ machine search_path. map ListedUnit (units_on machine search_path is_all)) loaded
 
 -- everything that the targets stand for was looked for, in their order, and nothing else was loaded
 abbrev pub HasAllTargets : (Machine → List (List ℕ) → Type 0) → List (List ℕ) → Loaded → Type 0
-HasAllTargets Knows targets loaded = HasAll Knows (λ machine path. flat_map (sought_by machine) targets) loaded
+HasAllTargets Knows targets loaded = HasAll Knows (λ machine search_path. flat_map (sought_by machine) targets) loaded
 
 -- ## Steps
 

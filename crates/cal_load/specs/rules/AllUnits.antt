@@ -40,24 +40,24 @@ found_stem (FoundAt file own_file own) = Some own
 
 -- the own stem of the unit that is found for a stem
 abbrev pub main_stem : Machine → List (List ℕ) → List ℕ → Option (List ℕ)
-main_stem machine path stem = found_stem (unit_on machine path stem)
+main_stem machine search_path stem = found_stem (unit_on machine search_path stem)
 
 -- the own stems of the units that are found for these stems, sorted by their bytes, each once
 abbrev pub own_stems : Machine → List (List ℕ) → List (List ℕ) → List (List ℕ)
-own_stems machine path stems = sorted_once (filter_map (main_stem machine path) stems)
+own_stems machine search_path stems = sorted_once (filter_map (main_stem machine search_path) stems)
 
 -- the own stems of the units that other units start
 abbrev pub started_units : Machine → List (List ℕ) → List (List ℕ)
-started_units machine path = own_stems machine path (started_in machine path)
+started_units machine search_path = own_stems machine search_path (started_in machine search_path)
 
 -- the own stems of all units in the search path, and of the instances of its templates that other units start
 abbrev pub all_units : Machine → List (List ℕ) → List (List ℕ)
-all_units machine path = own_stems machine path (unit_stems_in machine path ++ started_in machine path)
+all_units machine search_path = own_stems machine search_path (unit_stems_in machine search_path ++ started_in machine search_path)
 
 -- the own stems of the units that are loaded if no target is given: of all units, or only of those that other units
 -- start
 abbrev pub units_on : Machine → List (List ℕ) → Bool → List (List ℕ)
-units_on machine path is_all = if is_all then all_units machine path else started_units machine path
+units_on machine search_path is_all = if is_all then all_units machine search_path else started_units machine search_path
 
 -- ## Which units are disabled
 
@@ -67,7 +67,7 @@ shown_stems stems = option_map (λ set. map string_bytes set.keys) stems
 -- the own stems of the units that other units start, if all units are asked for; otherwise None, and then no unit
 -- counts as disabled
 abbrev pub started_if_all : Machine → List (List ℕ) → Bool → Option (List (List ℕ))
-started_if_all machine path is_all = if is_all then Some (started_units machine path) else None
+started_if_all machine search_path is_all = if is_all then Some (started_units machine search_path) else None
 
 abbrev pub is_among_started : List (List ℕ) → Option (List ℕ) → Bool
 is_among_started started None = false
@@ -130,22 +130,22 @@ IsTimerFileFault machine path fault = IsFileFault machine (file_at machine path)
 
 -- the error for a unit that was asked for by the stem `asked`, given what is found for this stem
 abbrev pub IsUnitReason : Machine → List (List ℕ) → List ℕ → Unit → TargetReason → Type 0
-IsUnitReason machine path asked Unfound reason = reason ≡ NotFound
-IsUnitReason machine path asked TemplateOnly reason = reason ≡ Template
-IsUnitReason machine path asked TooManyAliases reason = reason ≡ target_reasons.TheVariants.TooManyAliases
-IsUnitReason machine path asked (FoundAt file own_file own) reason =
-    IsFileReason machine (file_at machine file) file (unit_name own) (unit_texts machine path file own_file own asked) reason
+IsUnitReason machine search_path asked Unfound reason = reason ≡ NotFound
+IsUnitReason machine search_path asked TemplateOnly reason = reason ≡ Template
+IsUnitReason machine search_path asked TooManyAliases reason = reason ≡ target_reasons.TheVariants.TooManyAliases
+IsUnitReason machine search_path asked (FoundAt file own_file own) reason =
+    IsFileReason machine (file_at machine file) file (unit_name own) (unit_texts machine search_path file own_file own asked) reason
 
 abbrev pub IsUnitFault : Machine → List (List ℕ) → List ℕ → Unit → TargetLoadFault → Type 0
-IsUnitFault machine path asked unit (faults.TheVariants.Target reason) = IsUnitReason machine path asked unit reason
-IsUnitFault machine path asked unit faults.TheVariants.NoMemory = ⊤
+IsUnitFault machine search_path asked unit (faults.TheVariants.Target reason) = IsUnitReason machine search_path asked unit reason
+IsUnitFault machine search_path asked unit faults.TheVariants.NoMemory = ⊤
 
 -- ## What was found
 
 -- this is a correct result of loading the unit that is asked for by the stem `asked`
 abbrev pub IsFoundOf : Machine → List (List ℕ) → List ℕ → Result targets.LoadedTarget TargetLoadFault → Type 0
-IsFoundOf machine path asked (Ok found) = IsLoadedUnit machine path asked found
-IsFoundOf machine path asked (Err fault) = IsUnitFault machine path asked (unit_on machine path asked) fault
+IsFoundOf machine search_path asked (Ok found) = IsLoadedUnit machine search_path asked found
+IsFoundOf machine search_path asked (Err fault) = IsUnitFault machine search_path asked (unit_on machine search_path asked) fault
 
 -- a list of this name if what was found is masked, and otherwise an empty list
 abbrev pub masked_in : List ℕ → Result targets.LoadedTarget TargetLoadFault → List (List ℕ)

@@ -78,9 +78,9 @@ lost_drop_in machine path = map lost_path (fault_at machine path)
 
 -- the drop-in folders, and then the drop-ins, that can't be read for a unit with these names
 abbrev pub lost_drop_ins : Machine → List (List ℕ) → List (List ℕ) → List Lost
-lost_drop_ins machine path names =
-    map lost_path (unread_folders machine path Timer names)
-    ++ flat_map (lost_drop_in machine) (drop_ins machine path Timer names)
+lost_drop_ins machine search_path names =
+    map lost_path (unread_folders machine search_path Timer names)
+    ++ flat_map (lost_drop_in machine) (drop_ins machine search_path Timer names)
 
 -- why a unit is lost, if it is: it isn't found, or its own file is lost
 abbrev pub cause_of_unit : Machine → Unit → Option Cause
@@ -92,25 +92,25 @@ cause_of_unit machine (FoundAt file own_file own) = cause_at file (file_at machi
 -- The drop-in folders and drop-ins that can't be read for a unit that was asked for by the stem `asked`. A unit whose
 -- own file is not a text has no drop-ins.
 abbrev pub lost_of_unit : Machine → List (List ℕ) → List ℕ → Unit → List Lost
-lost_of_unit machine path asked Unfound = []
-lost_of_unit machine path asked TemplateOnly = []
-lost_of_unit machine path asked TooManyAliases = []
-lost_of_unit machine path asked (FoundAt file own_file own) =
-    if is_text (file_at machine file) then lost_drop_ins machine path (names_on machine path own_file own asked) else []
+lost_of_unit machine search_path asked Unfound = []
+lost_of_unit machine search_path asked TemplateOnly = []
+lost_of_unit machine search_path asked TooManyAliases = []
+lost_of_unit machine search_path asked (FoundAt file own_file own) =
+    if is_text (file_at machine file) then lost_drop_ins machine search_path (names_on machine search_path own_file own asked) else []
 
 -- why the unit with this stem is lost, if it is; if there is no stem, since the name isn't valid, there is no such unit
 abbrev pub cause_if_valid : Machine → List (List ℕ) → Option (List ℕ) → Option Cause
-cause_if_valid machine path None = Some Absent
-cause_if_valid machine path (Some stem) = cause_of_unit machine (unit_on machine path stem)
+cause_if_valid machine search_path None = Some Absent
+cause_if_valid machine search_path (Some stem) = cause_of_unit machine (unit_on machine search_path stem)
 
 abbrev pub lost_if_valid : Machine → List (List ℕ) → Option (List ℕ) → List Lost
-lost_if_valid machine path None = []
-lost_if_valid machine path (Some stem) = lost_of_unit machine path stem (unit_on machine path stem)
+lost_if_valid machine search_path None = []
+lost_if_valid machine search_path (Some stem) = lost_of_unit machine search_path stem (unit_on machine search_path stem)
 
 -- what can't be read for the name of a unit that a user gave: drop-in folders and drop-ins, and then the unit itself
 abbrev pub lost_named : Machine → List (List ℕ) → List ℕ → List Lost
-lost_named machine path name =
-    lost_if_valid machine path (unit_stem name) ++ lost_as name (cause_if_valid machine path (unit_stem name))
+lost_named machine search_path name =
+    lost_if_valid machine search_path (unit_stem name) ++ lost_as name (cause_if_valid machine search_path (unit_stem name))
 
 -- the cause, unless it is `Absent`: a unit of the search path is skipped if it has no file, for example because its
 -- file is a link to nothing
@@ -123,9 +123,9 @@ unless_absent (Some (UnusableAt path why)) = Some (UnusableAt path why)
 
 -- what can't be read for a unit of the search path: drop-in folders and drop-ins, and then the unit itself
 abbrev pub lost_listed : Machine → List (List ℕ) → List ℕ → List Lost
-lost_listed machine path stem =
-    lost_of_unit machine path stem (unit_on machine path stem)
-    ++ lost_as (unit_name stem) (unless_absent (cause_of_unit machine (unit_on machine path stem)))
+lost_listed machine search_path stem =
+    lost_of_unit machine search_path stem (unit_on machine search_path stem)
+    ++ lost_as (unit_name stem) (unless_absent (cause_of_unit machine (unit_on machine search_path stem)))
 
 -- ## Targets
 
@@ -150,17 +150,17 @@ lost_at machine path = if is_folder (end_at machine path) then lost_folder machi
 
 -- what can't be read for a target, which is a path or the name of a unit
 abbrev pub lost_by : Machine → List (List ℕ) → List ℕ → List Lost
-lost_by machine path target =
-    if is_path target then lost_at machine (without_slashes target) else lost_named machine path target
+lost_by machine search_path target =
+    if is_path target then lost_at machine (without_slashes target) else lost_named machine search_path target
 
 -- the folders that can't be read among those that say which units are started
 abbrev pub lost_starts : Machine → List (List ℕ) → List Lost
-lost_starts machine path = map lost_path (unreadable_wants machine path)
+lost_starts machine search_path = map lost_path (unreadable_wants machine search_path)
 
 -- What can't be read if no target is given: files and drop-ins of the units that are then loaded, and folders that say
 -- which units are started.
 abbrev pub all_lost : Machine → List (List ℕ) → Bool → List Lost
-all_lost machine path is_all = flat_map (lost_listed machine path) (units_on machine path is_all) ++ lost_starts machine path
+all_lost machine search_path is_all = flat_map (lost_listed machine search_path) (units_on machine search_path is_all) ++ lost_starts machine search_path
 
 -- ## The errors
 

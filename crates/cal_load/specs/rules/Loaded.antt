@@ -42,18 +42,18 @@ use Rattle.cal_load.specs.declared.readable.BrokenLine.{BrokenLine}
 -- they are read. `own_file` is the stem under which the file was found, `own` the stem of the unit's own name, and
 -- `asked` the stem by which the unit was asked for.
 abbrev pub unit_texts : Machine → List (List ℕ) → List ℕ → List ℕ → List ℕ → List ℕ → List UnitText
-unit_texts machine path file own_file own asked =
-    text_at machine file ++ texts_at machine (drop_ins machine path Timer (names_on machine path own_file own asked))
+unit_texts machine search_path file own_file own asked =
+    text_at machine file ++ texts_at machine (drop_ins machine search_path Timer (names_on machine search_path own_file own asked))
 
 abbrev pub texts_of_unit : Machine → List (List ℕ) → List ℕ → Unit → List UnitText
-texts_of_unit machine path asked Unfound = []
-texts_of_unit machine path asked TemplateOnly = []
-texts_of_unit machine path asked TooManyAliases = []
-texts_of_unit machine path asked (FoundAt file own_file own) = unit_texts machine path file own_file own asked
+texts_of_unit machine search_path asked Unfound = []
+texts_of_unit machine search_path asked TemplateOnly = []
+texts_of_unit machine search_path asked TooManyAliases = []
+texts_of_unit machine search_path asked (FoundAt file own_file own) = unit_texts machine search_path file own_file own asked
 
 -- the files of the unit that is found for a stem
 abbrev pub unit_files : Machine → List (List ℕ) → List ℕ → List UnitText
-unit_files machine path asked = texts_of_unit machine path asked (unit_on machine path asked)
+unit_files machine search_path asked = texts_of_unit machine search_path asked (unit_on machine search_path asked)
 
 -- the unit's own name, even if it was asked for by an alias
 abbrev pub name_of_unit : Unit → List ℕ
@@ -175,9 +175,9 @@ pub record IsTimerReadFrom (machine : Machine) (files : List UnitText) (timer : 
 -- the timer is the unit that is found for this stem: it has the unit's name, and was read from its file and its
 -- drop-ins
 abbrev pub IsUnitOn : Machine → List (List ℕ) → List ℕ → LoadedTimer → Type 0
-IsUnitOn machine path asked timer =
-    (string_bytes timer.name ≡ name_of_unit (unit_on machine path asked))
-    × IsTimerReadFrom machine (unit_files machine path asked) timer
+IsUnitOn machine search_path asked timer =
+    (string_bytes timer.name ≡ name_of_unit (unit_on machine search_path asked))
+    × IsTimerReadFrom machine (unit_files machine search_path asked) timer
 
 -- the timer was read from a single file, and its name is the path of this file
 abbrev pub IsFileOn : Machine → LoadedTimer → Type 0
@@ -189,8 +189,8 @@ IsFolderUnitOn machine timer = (folder : List ℕ) × (asked : List ℕ) × IsUn
 
 -- the timer is a unit of the machine (`IsUnitOn`), a single file (`IsFileOn`) or a unit of a folder (`IsFolderUnitOn`)
 abbrev pub IsTimerOn : Machine → List (List ℕ) → LoadedTimer → Type 0
-IsTimerOn machine path timer =
-    ((asked : List ℕ) × IsUnitOn machine path asked timer) ⊎ (IsFileOn machine timer ⊎ IsFolderUnitOn machine timer)
+IsTimerOn machine search_path timer =
+    ((asked : List ℕ) × IsUnitOn machine search_path asked timer) ⊎ (IsFileOn machine timer ⊎ IsFolderUnitOn machine timer)
 
 -- the machine has this file: these bytes at this path
 abbrev pub IsStoredOn : Machine → texts.UnitText → Type 0

@@ -38,10 +38,10 @@ IsMasked machine (FoundAt file own_file own) = file_at machine file ≡ Mask
 -- what was found for a unit that has its own file at the path `file`: either a timer that has the unit's own name, and
 -- was read from this file and the unit's drop-ins, or only that the unit is masked, because this file is a mask
 abbrev pub IsFoundTarget : Machine → List (List ℕ) → List ℕ → List ℕ → List ℕ → List ℕ → targets.LoadedTarget → Type 0
-IsFoundTarget machine path file own_file own asked (targets.TheVariants.Timer timer) =
+IsFoundTarget machine search_path file own_file own asked (targets.TheVariants.Timer timer) =
     (string_bytes timer.name ≡ own ++ codes ".timer")
-    × IsTimerReadFrom machine (unit_texts machine path file own_file own asked) timer
-IsFoundTarget machine path file own_file own asked targets.TheVariants.Masked = file_at machine file ≡ Mask
+    × IsTimerReadFrom machine (unit_texts machine search_path file own_file own asked) timer
+IsFoundTarget machine search_path file own_file own asked targets.TheVariants.Masked = file_at machine file ≡ Mask
 
 -- the file at a path, or None if it is a mask
 abbrev pub IsOwnFile : Machine → List ℕ → Option texts.UnitText → Type 0
@@ -50,14 +50,14 @@ IsOwnFile machine path (Some own) = (string_bytes own.path ≡ path) × (shown_u
 
 -- either the timer that was found is the unit that is found for this stem, or this unit is masked
 abbrev pub IsLoadedUnit : Machine → List (List ℕ) → List ℕ → targets.LoadedTarget → Type 0
-IsLoadedUnit machine path asked (targets.TheVariants.Timer timer) = IsUnitOn machine path asked timer
-IsLoadedUnit machine path asked targets.TheVariants.Masked = IsMasked machine (unit_on machine path asked)
+IsLoadedUnit machine search_path asked (targets.TheVariants.Timer timer) = IsUnitOn machine search_path asked timer
+IsLoadedUnit machine search_path asked targets.TheVariants.Masked = IsMasked machine (unit_on machine search_path asked)
 
 -- a timer that was found was read either from a unit of the machine, with its drop-ins, or from a single file of the
 -- machine, without drop-ins; nothing is said about what is masked
 abbrev pub IsLoadedTarget : Machine → List (List ℕ) → targets.LoadedTarget → Type 0
-IsLoadedTarget machine path (targets.TheVariants.Timer timer) = IsTimerOn machine path timer
-IsLoadedTarget machine path targets.TheVariants.Masked = ⊤
+IsLoadedTarget machine search_path (targets.TheVariants.Timer timer) = IsTimerOn machine search_path timer
+IsLoadedTarget machine search_path targets.TheVariants.Masked = ⊤
 
 -- a timer that was found was read from a single file of the machine; nothing is said about a file that is a mask
 abbrev pub IsLoadedFile : Machine → targets.LoadedTarget → Type 0

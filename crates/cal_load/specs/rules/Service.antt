@@ -39,12 +39,12 @@ own_path folders stem = option_or (path_among folders (stem ++ codes ".service")
 
 -- the paths of a service's files in the order in which they are read: its own file, and then its drop-ins
 abbrev pub service_paths : Machine → List (List ℕ) → List ℕ → List (List ℕ)
-service_paths machine path stem =
-    option_to_list (own_path (map (searched machine) path) stem) ++ drop_ins machine path Service (stem ∷ [])
+service_paths machine search_path stem =
+    option_to_list (own_path (map (searched machine) search_path) stem) ++ drop_ins machine search_path Service (stem ∷ [])
 
 -- the files of a service that can be read
 abbrev pub service_files : Machine → List (List ℕ) → List ℕ → List UnitText
-service_files machine path stem = texts_at machine (service_paths machine path stem)
+service_files machine search_path stem = texts_at machine (service_paths machine search_path stem)
 
 -- the assignments in the sections `Service` of files, as far as systemd reads each file
 abbrev pub service_assignments : List UnitText → List Assignment
@@ -95,7 +95,7 @@ any_asks is_user assignments = list_any (λ a. command_asks is_user a.value) (co
 -- whether the service with this stem runs `calendar-timers due` as a condition, on a machine with this search path;
 -- `is_user` says whether it is a unit of a user
 abbrev pub asks_due_on : Machine → List (List ℕ) → Bool → List ℕ → Bool
-asks_due_on machine path is_user stem = any_asks is_user (service_assignments (service_files machine path stem))
+asks_due_on machine search_path is_user stem = any_asks is_user (service_assignments (service_files machine search_path stem))
 
 -- ## Steps
 

@@ -83,4 +83,4 @@ is_missing_in folders unit = is_missing_with folders unit (find (ends_with nat_e
 
 -- whether the folders of the search path have no file of this unit
 abbrev pub is_missing_on : Machine → List (List ℕ) → List ℕ → Bool
-is_missing_on machine path unit = is_missing_in (map (searched machine) path) unit
+is_missing_on machine search_path unit = is_missing_in (map (searched machine) search_path) unit

@@ -10,6 +10,6 @@ abbrev pub invariant-loop-target : goal.invariant-loop-target
 invariant-loop-target g l =
     ((machine : Machine) → g.T.Tree.shows l.tree machine → HasTried machine l.reading)
     × ((machine : Machine) → g.T.Tree.shows l.tree machine → g.T.Tree.shows l.fn.tree machine)
-    × ((machine : Machine) (path : List (List ℕ)) → g.T.Tree.shows l.tree machine → IsIndexOf machine path l.index
-    → AreReadAlso machine (flat_map (paths_by machine path) (map (λ target. target.now) (take l.target-index l.targets)))
-    (flat_map (lost_by machine path) (map (λ target. target.now) (take l.target-index l.targets))) l.initial.reading l.reading)
+    × ((machine : Machine) (search_path : List (List ℕ)) → g.T.Tree.shows l.tree machine → IsIndexOf machine search_path l.index
+    → AreReadAlso machine (flat_map (paths_by machine search_path) (map (λ target. target.now) (take l.target-index l.targets)))
+    (flat_map (lost_by machine search_path) (map (λ target. target.now) (take l.target-index l.targets))) l.initial.reading l.reading)

@@ -9,10 +9,10 @@ returns-clause-stems g c machine shows =
 
 pub returns-clause-unread : goal.returns-clause-unread
 returns-clause-unread g c machine shows =
-    let path = c.args.folder.now ∷ [] in
+    let search_path = c.args.folder.now ∷ [] in
     let index = c.in_ok-index.ensures.known machine (c.units_in.ensures.grows machine shows) in
-    let wants = c.in_ok-stems.ensures.unreadable machine path shows index in
+    let wants = c.in_ok-stems.ensures.unreadable machine search_path shows index in
     c.in_ok-push_copies.ensures
     ∙ ap (λ faults. faults ++ map shown_fault c.unreadable.result.now) wants
-    ∙ ap (λ faults. unreadable_wants machine path ++ map shown_fault faults) c.unreadable.ensures
-    ∙ ap (λ faults. unreadable_wants machine path ++ faults) index.unreadable
+    ∙ ap (λ faults. unreadable_wants machine search_path ++ map shown_fault faults) c.unreadable.ensures
+    ∙ ap (λ faults. unreadable_wants machine search_path ++ faults) index.unreadable

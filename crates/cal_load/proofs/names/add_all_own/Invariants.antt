@@ -9,6 +9,6 @@ use Rattle.cal_load.proofs.names.add_all_own.Given as goal
 -- the own stems of the units that the loop has visited have been added
 abbrev pub invariant-loop-stem : goal.invariant-loop-stem
 invariant-loop-stem l =
-    (machine : Machine) (path : List (List ℕ)) → IsIndexOf machine path l.index
+    (machine : Machine) (search_path : List (List ℕ)) → IsIndexOf machine search_path l.index
     → map string_bytes l.found.keys
-    ≡ with_texts (map string_bytes l.fn.found.keys) (filter_map (main_stem machine path) (map string_bytes (map (λ stem. stem.now) l.yielded)))
+    ≡ with_texts (map string_bytes l.fn.found.keys) (filter_map (main_stem machine search_path) (map string_bytes (map (λ stem. stem.now) l.yielded)))

@@ -9,8 +9,8 @@ pub returns : goal.returns
 returns c =
     IfOk-weaker c.is_missing_in.result
     (λ missing. missing ≡ is_missing_in (map shown_folder c.folders.result.now) c.args.unit.now)
-    (λ missing. (machine : Machine) (path : List (List ℕ)) → IsIndexOf machine path c.args.index.now
-    → missing ≡ is_missing_on machine path c.args.unit.now)
-    (λ missing h machine path is.
+    (λ missing. (machine : Machine) (search_path : List (List ℕ)) → IsIndexOf machine search_path c.args.index.now
+    → missing ≡ is_missing_on machine search_path c.args.unit.now)
+    (λ missing h machine search_path is.
     h ∙ ap (λ folders. is_missing_in folders c.args.unit.now) (ap (map shown_folder) c.folders.ensures ∙ is.folders))
     c.is_missing_in.ensures

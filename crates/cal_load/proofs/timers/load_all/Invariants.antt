@@ -8,10 +8,10 @@ use Rattle.cal_load.proofs.timers.load_all.Given as goal
 
 abbrev pub invariant-loop-stem : goal.invariant-loop-stem
 invariant-loop-stem g l =
-    ((machine : Machine) (path : List (List ℕ)) → g.T.Tree.shows l.tree machine → IsIndexOf machine path l.index
-    → All (IsTimerOn machine path) l.loaded.timers.items)
+    ((machine : Machine) (search_path : List (List ℕ)) → g.T.Tree.shows l.tree machine → IsIndexOf machine search_path l.index
+    → All (IsTimerOn machine search_path) l.loaded.timers.items)
     × ((machine : Machine) → g.T.Tree.shows l.tree machine → g.T.Tree.shows l.fn.tree machine)
     × ((machine : Machine) → g.T.Tree.shows l.tree machine → g.T.Tree.shows l.initial.tree machine)
-    × IsMore (λ machine path. g.T.Tree.shows l.tree machine × IsIndexOf machine path l.index)
-    (λ machine path. map ListedUnit (map string_bytes l.yielded)) l.initial.loaded l.loaded
+    × IsMore (λ machine search_path. g.T.Tree.shows l.tree machine × IsIndexOf machine search_path l.index)
+    (λ machine search_path. map ListedUnit (map string_bytes l.yielded)) l.initial.loaded l.loaded
     × (l.started ≡ l.initial.started)

@@ -8,8 +8,8 @@ use Rattle.cal_load.proofs.timers.load_folder_units.Given as goal
 
 abbrev pub invariant-loop-stem : goal.invariant-loop-stem
 invariant-loop-stem g l =
-    ((machine : Machine) (path : List (List ℕ)) → g.T.Tree.shows l.tree machine → IsIndexOf machine (l.folder ∷ []) l.index
-    → All (IsTimerOn machine path) l.fn.loaded.timers.items → All (IsTimerOn machine path) l.loaded.timers.items)
+    ((machine : Machine) (search_path : List (List ℕ)) → g.T.Tree.shows l.tree machine → IsIndexOf machine (l.folder ∷ []) l.index
+    → All (IsTimerOn machine search_path) l.fn.loaded.timers.items → All (IsTimerOn machine search_path) l.loaded.timers.items)
     × ((machine : Machine) → g.T.Tree.shows l.tree machine → g.T.Tree.shows l.fn.tree machine)
-    × IsMore (λ machine path. g.T.Tree.shows l.tree machine × IsIndexOf machine (l.folder ∷ []) l.index)
-    (λ machine path. map (FolderUnit l.folder) (map string_bytes l.yielded)) l.fn.loaded l.loaded
+    × IsMore (λ machine search_path. g.T.Tree.shows l.tree machine × IsIndexOf machine (l.folder ∷ []) l.index)
+    (λ machine search_path. map (FolderUnit l.folder) (map string_bytes l.yielded)) l.fn.loaded l.loaded

@@ -6,11 +6,11 @@ use Rattle.cal_load.proofs.timers.load_path.Goals as goal
 pub returns-then-branch-clause-more : goal.returns-then-branch-clause-more
 returns-then-branch-clause-more g c =
     on_ok_weaker c.load_folder.result (λ more.
-    more_as _ _ _ _ c.args.loaded.now c.load_folder.new.loaded (λ machine path shows. shows)
-    (λ machine path shows. folder_sought machine c.args.target.now (sym (c.in_ok-is_folder.ensures.known machine (c.load_folder.ensures.grows machine shows)) ∙ c.if-branch.true)) more) c.load_folder.ensures.more
+    more_as _ _ _ _ c.args.loaded.now c.load_folder.new.loaded (λ machine search_path shows. shows)
+    (λ machine search_path shows. folder_sought machine c.args.target.now (sym (c.in_ok-is_folder.ensures.known machine (c.load_folder.ensures.grows machine shows)) ∙ c.if-branch.true)) more) c.load_folder.ensures.more
 
 pub returns-clause-more : goal.returns-clause-more
 returns-clause-more g c =
     on_ok_weaker c.load_file.result (λ more.
-    more_as _ _ _ _ c.args.loaded.now c.load_file.new.loaded (λ machine path shows. shows)
-    (λ machine path shows. file_sought machine c.args.target.now (sym (c.in_ok-is_folder.ensures.known machine (c.load_file.ensures.grows machine shows)) ∙ c.if-branch.false)) more) c.load_file.ensures.more
+    more_as _ _ _ _ c.args.loaded.now c.load_file.new.loaded (λ machine search_path shows. shows)
+    (λ machine search_path shows. file_sought machine c.args.target.now (sym (c.in_ok-is_folder.ensures.known machine (c.load_file.ensures.grows machine shows)) ∙ c.if-branch.false)) more) c.load_file.ensures.more

@@ -8,8 +8,8 @@ use Rattle.cal_load.proofs.timers.load_timers.Given as goal
 
 abbrev pub invariant-loop-target : goal.invariant-loop-target
 invariant-loop-target g l =
-    ((machine : Machine) (path : List (List ℕ)) → g.T.Tree.shows l.tree machine → IsIndexOf machine path l.index
-    → All (IsTimerOn machine path) l.loaded.timers.items)
+    ((machine : Machine) (search_path : List (List ℕ)) → g.T.Tree.shows l.tree machine → IsIndexOf machine search_path l.index
+    → All (IsTimerOn machine search_path) l.loaded.timers.items)
     × ((machine : Machine) → g.T.Tree.shows l.tree machine → g.T.Tree.shows l.fn.tree machine)
-    × IsMore (λ machine path. g.T.Tree.shows l.tree machine × IsIndexOf machine path l.index)
-    (λ machine path. flat_map (sought_by machine) (map (λ target. target.now) (take l.target-index l.targets))) l.initial.loaded l.loaded
+    × IsMore (λ machine search_path. g.T.Tree.shows l.tree machine × IsIndexOf machine search_path l.index)
+    (λ machine search_path. flat_map (sought_by machine) (map (λ target. target.now) (take l.target-index l.targets))) l.initial.loaded l.loaded

@@ -13,7 +13,7 @@ loop-fault-init c = (none_more _ c.args.loaded.now, refl)
 pub loop-fault-preserved : goal.loop-fault-preserved
 loop-fault-preserved c = (
   one_more _ _ UnreadPath shown_fault c.loop-fault.yielded c.in-Some.fault _ c.args.loaded.now c.loop-fault.loaded c.push_unread_path.new.loaded
-      (λ machine path now. now) refl c.loop-fault.invariant.0 c.in_ok-push_unread_path.ensures.more,
+      (λ machine search_path now. now) refl c.loop-fault.invariant.0 c.in_ok-push_unread_path.ensures.more,
   c.in_ok-push_unread_path.ensures.timers ∙ c.loop-fault.invariant.1,
 )
 
@@ -23,4 +23,4 @@ returns-clause-more c =
     let gives = c.into_iter-fault-iterator.ensures.into_iter_gives in
     let done = YieldsList-end (YieldsList-from_vec faults gives.0 (gives.1 ∙ c.args.unread.ok.0)) c.loop-fault.yielded c.loop-fault.fault-iterator c.loop-fault.yielded_by _ c.next.new.self c.in-None.is c.next.ensures.steps in
     let all : map shown_fault c.loop-fault.yielded ≡ map shown_fault faults = ap (map shown_fault) (sym (map-id c.loop-fault.yielded) ∙ done.0) in
-    more_as _ _ _ _ c.args.loaded.now c.loop-fault.loaded (λ machine path now. now) (λ machine path now. ap (map UnreadPath) all) c.loop-fault.invariant.0
+    more_as _ _ _ _ c.args.loaded.now c.loop-fault.loaded (λ machine search_path now. now) (λ machine search_path now. ap (map UnreadPath) all) c.loop-fault.invariant.0

@@ -7,5 +7,5 @@ use Rattle.cal_load.proofs.timers.push_unread.Given as goal
 
 abbrev pub invariant-loop-fault : goal.invariant-loop-fault
 invariant-loop-fault l =
-    IsMore (λ machine path. ⊤) (λ machine path. map UnreadPath (map shown_fault l.yielded)) l.fn.loaded l.loaded
+    IsMore (λ machine search_path. ⊤) (λ machine search_path. map UnreadPath (map shown_fault l.yielded)) l.fn.loaded l.loaded
     × (l.loaded.timers.items ≡ l.fn.loaded.timers.items)

@@ -4,4 +4,4 @@ use Rattle.cal_load.proofs.timers.read_named.Goals as goal
 
 pub returns-in-Some-clause-known : goal.returns-in-Some-clause-known
 returns-in-Some-clause-known g c =
-    IfOk-weaker c.read_unit.result _ _ (λ found known machine path shows is. unit_found machine path c.in-Some.stem.now found (known machine path shows is)) c.read_unit.ensures.known
+    IfOk-weaker c.read_unit.result _ _ (λ found known machine search_path shows is. unit_found machine search_path c.in-Some.stem.now found (known machine search_path shows is)) c.read_unit.ensures.known

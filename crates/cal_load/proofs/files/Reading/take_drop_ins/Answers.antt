@@ -26,18 +26,18 @@ returns-clause-tried g c machine shows held =
     (fold with_path held.0 (map string_bytes c.loop-path.yielded), after.0)
 
 pub returns-clause-read : goal.returns-clause-read
-returns-clause-read g c machine path shows is =
-    let names = names_on machine path (string_bytes c.args.file.now.file) (string_bytes c.args.file.now.stem) c.args.asked.now in
-    let found : map string_bytes c.as_slice.result.now ≡ names = ap (map string_bytes) c.as_slice.ensures.value ∙ c.in_ok-names.ensures.known machine path is in
+returns-clause-read g c machine search_path shows is =
+    let names = names_on machine search_path (string_bytes c.args.file.now.file) (string_bytes c.args.file.now.stem) c.args.asked.now in
+    let found : map string_bytes c.as_slice.result.now ≡ names = ap (map string_bytes) c.as_slice.ensures.value ∙ c.in_ok-names.ensures.known machine search_path is in
     let paths = c.in_ok-paths.field-0.paths in
     let gives = c.into_iter-path-iterator.ensures.into_iter_gives in
     let done = YieldsList-end (YieldsList-from_vec paths.items gives.0 (gives.1 ∙ paths.ok.0)) c.loop-path.yielded c.loop-path.path-iterator c.loop-path.yielded_by _ c.next.new.self c.in-None.is c.next.ensures.steps in
     let all : c.loop-path.yielded ≡ paths.items = sym (map-id c.loop-path.yielded) ∙ done.0 in
     let before = c.loop-path.invariant.1 machine shows in
     let reported : Reading = record { seen = c.args.self.now.seen; loaded = record { files = c.args.self.now.loaded.files; faults = c.push_lost.new.faults } } in
-    drop_ins_read machine path names paths.items c.in_ok-paths.field-0.unread.items c.args.self.now reported c.loop-path.self
-    (c.in_ok-paths.ensures.known machine path before is ∙ ap (drop_ins machine path Timer) found)
-    (c.in_ok-paths.ensures.unread machine path before is ∙ ap (unread_folders machine path Timer) found)
+    drop_ins_read machine search_path names paths.items c.in_ok-paths.field-0.unread.items c.args.self.now reported c.loop-path.self
+    (c.in_ok-paths.ensures.known machine search_path before is ∙ ap (drop_ins machine search_path Timer) found)
+    (c.in_ok-paths.ensures.unread machine search_path before is ∙ ap (unread_folders machine search_path Timer) found)
     refl refl c.in_ok-push_lost.ensures.lost
     (subst (λ paths. AreReadAlso machine (map string_bytes paths) (flat_map (lost_drop_in machine) (map string_bytes paths)) reported c.loop-path.self) all
     (c.loop-path.invariant.2 machine shows))

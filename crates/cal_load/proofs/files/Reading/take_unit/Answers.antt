@@ -5,5 +5,5 @@ use Rattle.cal_load.proofs.files.Reading.take_unit.Goals as goal
 
 pub returns-in-Found-clause-read : goal.returns-in-Found-clause-read
 returns-in-Found-clause-read g c =
-    IfOk-weaker c.take_found.result _ _ (λ reason read machine path shows is.
-    read machine path (unit_on machine path c.args.asked.now) shows is (sym (ap shown_unit c.in-Found.is) ∙ c.in_ok-find_unit.ensures.known machine path is)) c.take_found.ensures.read
+    IfOk-weaker c.take_found.result _ _ (λ reason read machine search_path shows is.
+    read machine search_path (unit_on machine search_path c.args.asked.now) shows is (sym (ap shown_unit c.in-Found.is) ∙ c.in_ok-find_unit.ensures.known machine search_path is)) c.take_found.ensures.read

@@ -10,6 +10,6 @@ abbrev pub invariant-loop-stem : goal.invariant-loop-stem
 invariant-loop-stem g l =
     ((machine : Machine) → g.T.Tree.shows l.tree machine → HasTried machine l.fn.self → HasTried machine l.self)
     × ((machine : Machine) → g.T.Tree.shows l.tree machine → g.T.Tree.shows l.fn.tree machine)
-    × ((machine : Machine) (path : List (List ℕ)) → g.T.Tree.shows l.tree machine → IsIndexOf machine path l.index
-    → AreReadAlso machine (flat_map (unit_paths machine path) (map string_bytes l.yielded))
-    (flat_map (lost_listed machine path) (map string_bytes l.yielded)) l.fn.self l.self)
+    × ((machine : Machine) (search_path : List (List ℕ)) → g.T.Tree.shows l.tree machine → IsIndexOf machine search_path l.index
+    → AreReadAlso machine (flat_map (unit_paths machine search_path) (map string_bytes l.yielded))
+    (flat_map (lost_listed machine search_path) (map string_bytes l.yielded)) l.fn.self l.self)
