@@ -35,51 +35,51 @@ use Rattle.cal_tasks.specs.rules.Unguarded.{unguarded_seen}
 use Rattle.cal_answers.specs.rules.Unguarded.{unguarded_on}
 
 -- if `HasAll` holds for all machines and search paths that `Knows` holds for, it holds for any one of them
-all_at : (Knows : Machine → List (List ℕ) → Type 0) (sought : Machine → List (List ℕ) → List Sought) (machine : Machine) (path : List (List ℕ)) (timers : Loaded)
-    → Knows machine path → HasAll Knows sought timers → HasAll (λ other folders. (other ≡ machine) × (folders ≡ path)) sought timers
-all_at Knows sought machine path timers knows all = record {
+all_at : (Knows : Machine → List (List ℕ) → Type 0) (sought : Machine → List (List ℕ) → List Sought) (machine : Machine) (search_path : List (List ℕ)) (timers : Loaded)
+    → Knows machine search_path → HasAll Knows sought timers → HasAll (λ other folders. (other ≡ machine) × (folders ≡ search_path)) sought timers
+all_at Knows sought machine search_path timers knows all = record {
   outcomes = all.outcomes;
   loaded_from = all.loaded_from;
   are = record {
     true_of = λ other folders same.
         subst (λ other. All (IsOutcome other folders) all.outcomes) (sym same.0)
-        (subst (λ folders. All (IsOutcome machine folders) all.outcomes) (sym same.1) (all.are.true_of machine path knows));
+        (subst (λ folders. All (IsOutcome machine folders) all.outcomes) (sym same.1) (all.are.true_of machine search_path knows));
     are_all = λ other folders same.
-        all.are.are_all machine path knows ∙ ap (sought machine) (sym same.1) ∙ ap (λ other. sought other folders) (sym same.0);
+        all.are.are_all machine search_path knows ∙ ap (sought machine) (sym same.1) ∙ ap (λ other. sought other folders) (sym same.0);
   };
 }
 
-units_at : (Knows : Machine → List (List ℕ) → Type 0) (machine : Machine) (path : List (List ℕ)) (is_all : Bool) (timers : Loaded) → Knows machine path
-    → HasUnits Knows is_all timers → HasUnits (λ other folders. (other ≡ machine) × (folders ≡ path)) is_all timers
-units_at Knows machine path is_all timers knows all = (
-  all_at Knows _ machine path timers knows all.0,
+units_at : (Knows : Machine → List (List ℕ) → Type 0) (machine : Machine) (search_path : List (List ℕ)) (is_all : Bool) (timers : Loaded) → Knows machine search_path
+    → HasUnits Knows is_all timers → HasUnits (λ other folders. (other ≡ machine) × (folders ≡ search_path)) is_all timers
+units_at Knows machine search_path is_all timers knows all = (
+  all_at Knows _ machine search_path timers knows all.0,
   λ other folders same.
-      all.1 machine path knows
+      all.1 machine search_path knows
       ∙ ap (λ folders. started_if_all machine folders is_all) (sym same.1) ∙ ap (λ other. started_if_all other folders is_all) (sym same.0),
 )
 
-for_at : (Knows : Machine → List (List ℕ) → Type 0) (machine : Machine) (path : List (List ℕ)) (is_all : Bool) (targets : List (List ℕ)) (timers : Loaded) → Knows machine path
-    → HasAllFor Knows is_all targets timers → HasAllFor (λ other folders. (other ≡ machine) × (folders ≡ path)) is_all targets timers
-for_at Knows machine path is_all [] timers knows all = units_at Knows machine path is_all timers knows all
-for_at Knows machine path is_all (one ∷ rest) timers knows all = all_at Knows _ machine path timers knows all
+for_at : (Knows : Machine → List (List ℕ) → Type 0) (machine : Machine) (search_path : List (List ℕ)) (is_all : Bool) (targets : List (List ℕ)) (timers : Loaded) → Knows machine search_path
+    → HasAllFor Knows is_all targets timers → HasAllFor (λ other folders. (other ≡ machine) × (folders ≡ search_path)) is_all targets timers
+for_at Knows machine search_path is_all [] timers knows all = units_at Knows machine search_path is_all timers knows all
+for_at Knows machine search_path is_all (one ∷ rest) timers knows all = all_at Knows _ machine search_path timers knows all
 
-linted_at : (Knows : Machine → List (List ℕ) → Type 0) (machine : Machine) (path : List (List ℕ)) (is_all : Bool) (targets : List (List ℕ)) (timers : Loaded) → Knows machine path
-    → HasAllLinted Knows is_all targets timers → HasAllLinted (λ other folders. (other ≡ machine) × (folders ≡ path)) is_all targets timers
-linted_at Knows machine path is_all [] timers knows all = units_at Knows machine path is_all timers knows all
-linted_at Knows machine path is_all (one ∷ rest) timers knows all = (
+linted_at : (Knows : Machine → List (List ℕ) → Type 0) (machine : Machine) (search_path : List (List ℕ)) (is_all : Bool) (targets : List (List ℕ)) (timers : Loaded) → Knows machine search_path
+    → HasAllLinted Knows is_all targets timers → HasAllLinted (λ other folders. (other ≡ machine) × (folders ≡ search_path)) is_all targets timers
+linted_at Knows machine search_path is_all [] timers knows all = units_at Knows machine search_path is_all timers knows all
+linted_at Knows machine search_path is_all (one ∷ rest) timers knows all = (
   all.0,
   all.1,
-  λ other folders same none. all.2 machine path knows (subst (λ other. other_targets all.0 other (one ∷ rest) ≡ []) same.0 none),
+  λ other folders same none. all.2 machine search_path knows (subst (λ other. other_targets all.0 other (one ∷ rest) ≡ []) same.0 none),
 )
 
 -- `HasAllFor` holds if everything that the targets stand for was looked for; without targets, these are the units that
 -- other units start or, if `is_all` is true, all units
 pub all_for : (Shows : Machine → Type 0) (Is : Machine → List (List ℕ) → Type 0) (is_all : Bool) (targets : List (Bor (List ℕ))) (loaded : Loaded)
-    → (targets ≡ [] → HasAllUnits (λ machine path. Shows machine × Is machine path) is_all loaded)
-    → (targets ≡ [] → (machine : Machine) (path : List (List ℕ)) → Shows machine → Is machine path → shown_stems loaded.started ≡ started_if_all machine path is_all)
-    → ((targets ≡ [] → ⊥) → HasAllTargets (λ machine path. Shows machine × Is machine path) (map (λ text. text.now) targets) loaded)
-    → HasAllFor (λ machine path. Shows machine × Is machine path) is_all (map (λ text. text.now) targets) loaded
-all_for Shows Is is_all [] loaded units started targets = (units refl, λ machine path knows. started refl machine path knows.0 knows.1)
+    → (targets ≡ [] → HasAllUnits (λ machine search_path. Shows machine × Is machine search_path) is_all loaded)
+    → (targets ≡ [] → (machine : Machine) (search_path : List (List ℕ)) → Shows machine → Is machine search_path → shown_stems loaded.started ≡ started_if_all machine search_path is_all)
+    → ((targets ≡ [] → ⊥) → HasAllTargets (λ machine search_path. Shows machine × Is machine search_path) (map (λ text. text.now) targets) loaded)
+    → HasAllFor (λ machine search_path. Shows machine × Is machine search_path) is_all (map (λ text. text.now) targets) loaded
+all_for Shows Is is_all [] loaded units started targets = (units refl, λ machine search_path knows. started refl machine search_path knows.0 knows.1)
 all_for Shows Is is_all (one ∷ rest) loaded units started targets = targets (λ h. absurd (cc))
 
 -- if there are targets, `HasAllLinted` holds if no timers were loaded in the case that all of them are crontabs
@@ -113,20 +113,20 @@ targets_more test xs i x now new within was more =
     ∙ ap (map (λ (text : Bor (List ℕ)). text.now)) (sym (take_more xs i x within)))
 
 -- no file was loaded for no target
-pub no_files : (machine : Machine) (path : List (List ℕ)) (targets : List (Bor (List ℕ))) (files : LoadedFiles) → targets ≡ []
-    → files.files.items ≡ [] → files.faults.items ≡ [] → AreFilesOf machine path (map (λ text. text.now) targets) files
-no_files machine path targets files none empty no_faults =
-    subst (λ (targets : List (Bor (List ℕ))). AreFilesOf machine path (map (λ text. text.now) targets) files) (sym none) (
+pub no_files : (machine : Machine) (search_path : List (List ℕ)) (targets : List (Bor (List ℕ))) (files : LoadedFiles) → targets ≡ []
+    → files.files.items ≡ [] → files.faults.items ≡ [] → AreFilesOf machine search_path (map (λ text. text.now) targets) files
+no_files machine search_path targets files none empty no_faults =
+    subst (λ (targets : List (Bor (List ℕ))). AreFilesOf machine search_path (map (λ text. text.now) targets) files) (sym none) (
       ap (map shown_unit_text) empty,
       subst (AreFaultsOf []) (sym no_faults) (record { true_of = All-nil _; whole = All-nil _ }),
     )
 
 -- if there are targets, `AreFilesOn` holds if the files of all of them except crontabs were loaded
-pub files_on : (machine : Machine) (path : List (List ℕ)) (is_all : Bool) (targets : List (Bor (List ℕ))) (files : LoadedFiles)
-    → (targets ≡ [] → ⊥) → AreNamedFiles machine path (map (λ text. text.now) targets) files
-    → AreFilesOn machine path is_all (map (λ text. text.now) targets) files
-files_on machine path is_all [] files some named = absurd (some refl)
-files_on machine path is_all (one ∷ rest) files some named = named
+pub files_on : (machine : Machine) (search_path : List (List ℕ)) (is_all : Bool) (targets : List (Bor (List ℕ))) (files : LoadedFiles)
+    → (targets ≡ [] → ⊥) → AreNamedFiles machine search_path (map (λ text. text.now) targets) files
+    → AreFilesOn machine search_path is_all (map (λ text. text.now) targets) files
+files_on machine search_path is_all [] files some named = absurd (some refl)
+files_on machine search_path is_all (one ∷ rest) files some named = named
 
 reason_at : (Shows Knows : Machine → Type 0) (texts : List (List ℕ)) (target : List ℕ) (reason : TargetReason) → ((machine : Machine) → Knows machine → Shows machine)
     → IsExpressionReason Shows texts target reason → IsExpressionReason Knows texts target reason
@@ -149,73 +149,73 @@ made_at Shows Knows texts loaded shows (none, inl one) = (none, inl one)
 made_at Shows Knows texts loaded shows (none, inr fault) =
     (none, inr (fault.0, (fault.1.0, fault.1.1, reason_at Shows Knows texts (string_bytes fault.1.0.target) fault.1.0.reason shows fault.1.2)))
 
-due_at : (Knows : Machine → List (List ℕ) → Type 0) (machine : Machine) (path : List (List ℕ)) (about : Option (List ℕ)) (timer : Option Loaded) → Knows machine path
-    → HasDue Knows about timer → HasDue (λ other folders. (other ≡ machine) × (folders ≡ path)) about timer
-due_at Knows machine path None timer knows all = tt
-due_at Knows machine path (Some name) None knows all = tt
-due_at Knows machine path (Some name) (Some timer) knows all = all_at Knows _ machine path timer knows all
+due_at : (Knows : Machine → List (List ℕ) → Type 0) (machine : Machine) (search_path : List (List ℕ)) (about : Option (List ℕ)) (timer : Option Loaded) → Knows machine search_path
+    → HasDue Knows about timer → HasDue (λ other folders. (other ≡ machine) × (folders ≡ search_path)) about timer
+due_at Knows machine search_path None timer knows all = tt
+due_at Knows machine search_path (Some name) None knows all = tt
+due_at Knows machine search_path (Some name) (Some timer) knows all = all_at Knows _ machine search_path timer knows all
 
-pub loaded_at : (Knows : Machine → List (List ℕ) → Type 0) (machine : Machine) (path : List (List ℕ)) (all_units : Bool) (about : Option (List ℕ)) (loaded : LoadedByVerb) → Knows machine path
-    → AreAll Knows all_units about loaded → AreAllOn machine path all_units about loaded
-loaded_at Knows machine path all_units about (loads.List timers named is_all entries) knows all = for_at Knows machine path all_units (map string_bytes named.now) timers knows all
-loaded_at Knows machine path all_units about (loads.Show timers named count) knows all = for_at Knows machine path all_units (map string_bytes named.now) timers knows all
-loaded_at Knows machine path all_units about (loads.Lint files timers crontabs named is_strict) knows all = (
-  linted_at Knows machine path all_units (map string_bytes named.now) timers knows all.0,
+pub loaded_at : (Knows : Machine → List (List ℕ) → Type 0) (machine : Machine) (search_path : List (List ℕ)) (all_units : Bool) (about : Option (List ℕ)) (loaded : LoadedByVerb) → Knows machine search_path
+    → AreAll Knows all_units about loaded → AreAllOn machine search_path all_units about loaded
+loaded_at Knows machine search_path all_units about (loads.List timers named is_all entries) knows all = for_at Knows machine search_path all_units (map string_bytes named.now) timers knows all
+loaded_at Knows machine search_path all_units about (loads.Show timers named count) knows all = for_at Knows machine search_path all_units (map string_bytes named.now) timers knows all
+loaded_at Knows machine search_path all_units about (loads.Lint files timers crontabs named is_strict) knows all = (
+  linted_at Knows machine search_path all_units (map string_bytes named.now) timers knows all.0,
   λ other folders same.
       subst (λ other. AreFilesOn other folders all_units (map string_bytes named.now) files) (sym same.0)
-      (subst (λ folders. AreFilesOn machine folders all_units (map string_bytes named.now) files) (sym same.1) (all.1 machine path knows)),
+      (subst (λ folders. AreFilesOn machine folders all_units (map string_bytes named.now) files) (sym same.1) (all.1 machine search_path knows)),
 )
-loaded_at Knows machine path all_units about (loads.Between timers named from to entries) knows all = for_at Knows machine path all_units (map string_bytes named.now) timers knows all
-loaded_at Knows machine path all_units about (loads.Same first one second other) knows all = tt
-loaded_at Knows machine path all_units about (loads.Next timers expressions count) knows all =
-    made_at (λ other. (folders : List (List ℕ)) × Knows other folders) (λ other. (folders : List (List ℕ)) × ((other ≡ machine) × (folders ≡ path)))
-    (map string_bytes expressions.now) timers (λ other is. (path, subst (λ other. Knows other path) (sym is.1.0) knows)) all
-loaded_at Knows machine path all_units about (loads.Due timer named) knows all = due_at Knows machine path about timer knows all
-loaded_at Knows machine path all_units about (loads.Cron crontabs named) knows all = tt
+loaded_at Knows machine search_path all_units about (loads.Between timers named from to entries) knows all = for_at Knows machine search_path all_units (map string_bytes named.now) timers knows all
+loaded_at Knows machine search_path all_units about (loads.Same first one second other) knows all = tt
+loaded_at Knows machine search_path all_units about (loads.Next timers expressions count) knows all =
+    made_at (λ other. (folders : List (List ℕ)) × Knows other folders) (λ other. (folders : List (List ℕ)) × ((other ≡ machine) × (folders ≡ search_path)))
+    (map string_bytes expressions.now) timers (λ other is. (search_path, subst (λ other. Knows other search_path) (sym is.1.0) knows)) all
+loaded_at Knows machine search_path all_units about (loads.Due timer named) knows all = due_at Knows machine search_path about timer knows all
+loaded_at Knows machine search_path all_units about (loads.Cron crontabs named) knows all = tt
 
--- what is known for a question is true on a machine (`IsKnownOn`) if each part of it is; `path` is the search path, or
--- has no folders
-known_with : (machine : Machine) (command : Command) (known : Known) (path : List (List ℕ)) (needed : Bool)
+-- what is known for a question is true on a machine (`IsKnownOn`) if each part of it is; `search_path` is that of the
+-- machine, or has no folders
+known_with : (machine : Machine) (command : Command) (known : Known) (search_path : List (List ℕ)) (needed : Bool)
     → needs_units command.question (due_on machine command.question) ≡ needed
     → IsLocalZone machine (local_zone_of machine command) (clock_zone known.local)
     → IsLocalZone machine (shown_zone_of machine command) (clock_zone known.shown)
     → AreRangeZones machine command.question known.range
-    → IsPathOf machine command.options.is_user needed path → IsIndexOf machine path known.index → IsLoadedFor command.question known.loaded
+    → IsPathOf machine command.options.is_user needed search_path → IsIndexOf machine search_path known.index → IsLoadedFor command.question known.loaded
     → ((folders : List (List ℕ)) → IsIndexOf machine folders known.index → AreLoadedOn machine folders (due_on machine command.question) known.loaded)
     → ((folders : List (List ℕ)) → IsIndexOf machine folders known.index → AreAllOn machine folders (asks_all command.question) (due_on machine command.question) known.loaded)
     → ((folders : List (List ℕ)) → IsIndexOf machine folders known.index → map unguarded_seen known.unguarded.items ≡ unguarded_on machine folders command.options.is_user known.loaded)
     → IsKnownOn machine command known
-known_with machine command known path needed about zone shown range searched is same loads whole unguarded = record {
+known_with machine command known search_path needed about zone shown range searched is same loads whole unguarded = record {
   local = zone;
   shown = shown;
   range = range;
-  path = path;
-  searched = subst (λ needed. IsPathOf machine command.options.is_user needed path) (sym about) searched;
+  search_path = search_path;
+  searched = subst (λ needed. IsPathOf machine command.options.is_user needed search_path) (sym about) searched;
   index = is;
   for_question = same;
-  loaded = loads path is;
-  whole = whole path is;
-  unguarded = unguarded path is;
+  loaded = loads search_path is;
+  whole = whole search_path is;
+  unguarded = unguarded search_path is;
 }
 
 -- what is known for a question is true on a machine (`IsKnownOn`) if each part of it is; `needed` says whether the
 -- question can be about units
-pub known_on : (machine : Machine) (command : Command) (known : Known) (path : List (List ℕ)) (needed : Bool)
+pub known_on : (machine : Machine) (command : Command) (known : Known) (search_path : List (List ℕ)) (needed : Bool)
     → needs_units command.question (due_on machine command.question) ≡ needed
     → IsLocalZone machine (local_zone_of machine command) (clock_zone known.local)
     → IsLocalZone machine (shown_zone_of machine command) (clock_zone known.shown)
     → AreRangeZones machine command.question known.range
-    → machine_path machine command.options.is_user ≡ Some path → IsIndexFor machine path known.index
-    → (needed ≡ true → IsIndexOf machine path known.index) → IsLoadedFor command.question known.loaded
+    → machine_path machine command.options.is_user ≡ Some search_path → IsIndexFor machine search_path known.index
+    → (needed ≡ true → IsIndexOf machine search_path known.index) → IsLoadedFor command.question known.loaded
     → ((folders : List (List ℕ)) → IsIndexOf machine folders known.index → AreLoadedOn machine folders (due_on machine command.question) known.loaded)
     → ((folders : List (List ℕ)) → IsIndexOf machine folders known.index → AreAllOn machine folders (asks_all command.question) (due_on machine command.question) known.loaded)
     → ((folders : List (List ℕ)) → IsIndexOf machine folders known.index → map unguarded_seen known.unguarded.items ≡ unguarded_on machine folders command.options.is_user known.loaded)
     → IsKnownOn machine command known
-known_on machine command known path true about zone shown range searched index indexed same loads whole unguarded =
-    known_with machine command known path true about zone shown range searched (indexed refl) same loads whole unguarded
-known_on machine command known path false about zone shown range searched (inl is) indexed same loads whole unguarded =
-    known_with machine command known path false about zone shown range (inl searched) is same loads whole unguarded
-known_on machine command known path false about zone shown range searched (inr is) indexed same loads whole unguarded =
+known_on machine command known search_path true about zone shown range searched index indexed same loads whole unguarded =
+    known_with machine command known search_path true about zone shown range searched (indexed refl) same loads whole unguarded
+known_on machine command known search_path false about zone shown range searched (inl is) indexed same loads whole unguarded =
+    known_with machine command known search_path false about zone shown range (inl searched) is same loads whole unguarded
+known_on machine command known search_path false about zone shown range searched (inr is) indexed same loads whole unguarded =
     known_with machine command known [] false about zone shown range (inr refl) is same loads whole unguarded
 
 -- an error that can only be a failed allocation is one

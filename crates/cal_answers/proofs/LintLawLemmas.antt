@@ -76,10 +76,10 @@ status_if false false false warnings E W has_e has_w = (
   ],
 )
 
-pub fails_if : (context : Context) (is_strict : Bool) (machine : Machine) (path : List (List ℕ)) (files : LoadedFiles) (loaded : Loaded) (crontabs : Crontabs) (out err : List ℕ) (status : ℕ) (is : IsLint context is_strict machine path files loaded crontabs out err status)
-    → (status ≡ 1) ↔ IsFailure is_strict (has_lines err) (all_problems context machine path loaded is.found)
-fails_if context is_strict machine path files loaded crontabs out err status is =
-    let listed = all_problems context machine path loaded is.found in
+pub fails_if : (context : Context) (is_strict : Bool) (machine : Machine) (search_path : List (List ℕ)) (files : LoadedFiles) (loaded : Loaded) (crontabs : Crontabs) (out err : List ℕ) (status : ℕ) (is : IsLint context is_strict machine search_path files loaded crontabs out err status)
+    → (status ≡ 1) ↔ IsFailure is_strict (has_lines err) (all_problems context machine search_path loaded is.found)
+fails_if context is_strict machine search_path files loaded crontabs out err status is =
+    let listed = all_problems context machine search_path loaded is.found in
     subst (λ (n : ℕ). IsOne n ↔ IsFailure is_strict (has_lines err) listed) (sym is.ends)
     (status_if (has_lines err) (nat_lt 0 (lint_counts listed).errors) is_strict (nat_lt 0 (lint_counts listed).warnings) (HasError listed) (HasWarning listed) (errors_if listed) (warnings_if listed))
 

@@ -52,20 +52,20 @@ counts_are problems errors warnings is others =
 -- ## The search path
 
 -- a folder of an index passes a test if and only if a folder of its search path does
-pub folders_any : (machine : Machine) (path : List (List ℕ)) (index : UnitIndex) (test : List ℕ → Bool) → IsIndexOf machine path index
-    → list_any (λ folder. test (string_bytes folder.path)) index.folders.items ≡ list_any test path
-folders_any machine path index test is =
+pub folders_any : (machine : Machine) (search_path : List (List ℕ)) (index : UnitIndex) (test : List ℕ → Bool) → IsIndexOf machine search_path index
+    → list_any (λ folder. test (string_bytes folder.path)) index.folders.items ≡ list_any test search_path
+folders_any machine search_path index test is =
     sym (list_any-map (λ (folder : Searched). test folder.path) shown_folder index.folders.items)
     ∙ ap (list_any (λ (folder : Searched). test folder.path)) is.folders
-    ∙ list_any-map (λ (folder : Searched). test folder.path) (searched machine) path
+    ∙ list_any-map (λ (folder : Searched). test folder.path) (searched machine) search_path
 
-pub first_in : (path : List (List ℕ)) (files : List UnitText) (own : UnitText) → slice_get files 0 ≡ Some own
-    → list_any (λ folder. is_directly_in folder (string_bytes own.path)) path ≡ is_in_folders path files
-first_in path [] own is = absurd (cc)
-first_in path (file ∷ rest) own is =
+pub first_in : (search_path : List (List ℕ)) (files : List UnitText) (own : UnitText) → slice_get files 0 ≡ Some own
+    → list_any (λ folder. is_directly_in folder (string_bytes own.path)) search_path ≡ is_in_folders search_path files
+first_in search_path [] own is = absurd (cc)
+first_in search_path (file ∷ rest) own is =
     let same : file ≡ own = cc in
-    ap (λ (file : UnitText). list_any (λ folder. is_directly_in folder (string_bytes file.path)) path) (sym same)
+    ap (λ (file : UnitText). list_any (λ folder. is_directly_in folder (string_bytes file.path)) search_path) (sym same)
 
-pub none_in : (path : List (List ℕ)) (files : List UnitText) → slice_get files 0 ≡ None → false ≡ is_in_folders path files
-none_in path [] is = refl
-none_in path (file ∷ rest) is = absurd (cc)
+pub none_in : (search_path : List (List ℕ)) (files : List UnitText) → slice_get files 0 ≡ None → false ≡ is_in_folders search_path files
+none_in search_path [] is = refl
+none_in search_path (file ∷ rest) is = absurd (cc)

@@ -27,11 +27,11 @@ crontabs_listed style old new found all same is = is ∙ ap (λ found. with_prob
 
 -- the problems of the files and the crontabs, then those of the timers, and then the warnings about exceptions that
 -- systemd ignores, are all problems
-all_listed : (context : Context) (machine : Machine) (path : List (List ℕ)) (loaded : Loaded) (one two all : List Listed) (found : List Candidate)
-    → found ≡ problems_of_timers context.at machine path loaded → two ≡ with_candidates context.style one found
+all_listed : (context : Context) (machine : Machine) (search_path : List (List ℕ)) (loaded : Loaded) (one two all : List Listed) (found : List Candidate)
+    → found ≡ problems_of_timers context.at machine search_path loaded → two ≡ with_candidates context.style one found
     → all ≡ two ++ unguarded_problems context.style context.is_user (map unguarded_seen context.unguarded.now)
-    → all ≡ all_problems context machine path loaded one
-all_listed context machine path loaded one two all found is listed added =
+    → all ≡ all_problems context machine search_path loaded one
+all_listed context machine search_path loaded one two all found is listed added =
     added ∙ ap (λ before. before ++ unguarded_problems context.style context.is_user (map unguarded_seen context.unguarded.now))
     (listed ∙ ap (with_candidates context.style one) is)
 
@@ -39,21 +39,21 @@ all_listed context machine path loaded one two all found is listed added =
 from_none : (Are : List Listed → Type 0) (start one : List Listed) → start ≡ [] → HasAlso Are start one → Are one
 from_none Are start one none has = subst Are (sym (has.2 ∙ ap (λ before. before ++ has.0) none)) has.1
 
-pub lint_on : (context : Context) (is_strict : Bool) (machine : Machine) (path : List (List ℕ)) (files : LoadedFiles) (loaded : Loaded) (crontabs : Crontabs) (texts : List UnitText) (tables : List Crontab)
+pub lint_on : (context : Context) (is_strict : Bool) (machine : Machine) (search_path : List (List ℕ)) (files : LoadedFiles) (loaded : Loaded) (crontabs : Crontabs) (texts : List UnitText) (tables : List Crontab)
     (start own one two all : List Listed) (found lacking : List Candidate) (out : List ℕ) (counts : ProblemCounts) (err : List ℕ) (has_err : Bool) (status : ℕ)
     → texts ≡ files.files.items → tables ≡ crontabs.crontabs.items → start ≡ [] → HasAlso (AreProblemsOfFiles context.style texts) start own
-    → HasCrontabs context.style tables own one → found ≡ problems_of_timers context.at machine path loaded
+    → HasCrontabs context.style tables own one → found ≡ problems_of_timers context.at machine search_path loaded
     → two ≡ with_candidates context.style one found → all ≡ two ++ unguarded_problems context.style context.is_user (map unguarded_seen context.unguarded.now)
-    → lacking ≡ unread machine path files loaded crontabs → out ≡ lint_output context lacking all
+    → lacking ≡ unread machine search_path files loaded crontabs → out ≡ lint_output context lacking all
     → counts ≡ lint_counts all → has_err ≡ has_lines err → status ≡ lint_status is_strict counts has_err
-    → IsLint context is_strict machine path files loaded crontabs out err status
-lint_on context is_strict machine path files loaded crontabs texts tables start own one two all found lacking out counts err has_err status same same_tables none has more is listed added lacks prints counted lines ends =
-    let listed_all = all_listed context machine path loaded one two all found is listed added in
+    → IsLint context is_strict machine search_path files loaded crontabs out err status
+lint_on context is_strict machine search_path files loaded crontabs texts tables start own one two all found lacking out counts err has_err status same same_tables none has more is listed added lacks prints counted lines ends =
+    let listed_all = all_listed context machine search_path loaded one two all found is listed added in
     record {
       own = own;
       of_files = subst (λ texts. AreProblemsOfFiles context.style texts own) same (from_none (AreProblemsOfFiles context.style texts) start own none has);
       found = one;
       of_crontabs = subst (λ tables. HasCrontabs context.style tables own one) same_tables more;
-      prints = prints ∙ ap (λ more. lint_output context more all) lacks ∙ ap (lint_output context (unread machine path files loaded crontabs)) listed_all;
+      prints = prints ∙ ap (λ more. lint_output context more all) lacks ∙ ap (lint_output context (unread machine search_path files loaded crontabs)) listed_all;
       ends = ends ∙ ap (lint_status is_strict counts) lines ∙ ap (λ n. lint_status is_strict n (has_lines err)) (counted ∙ ap lint_counts listed_all);
     }

@@ -19,6 +19,6 @@ variables_are machine variables home config_home config_dirs data_home data_dirs
     rw (home, config_home, config_dirs, data_home, data_dirs, runtime_dir) refl
 
 -- if `SYSTEMD_UNIT_PATH` has a value, `given_path` returns the search path
-pub path_given : (machine : Machine) (is_user : Bool) (usual path : List (List ℕ)) (value : List ℕ) → usual_path machine is_user ≡ Some usual
-    → variable_on machine (codes "SYSTEMD_UNIT_PATH") ≡ Some value → path ≡ given_path value usual → machine_path machine is_user ≡ Some path
-path_given machine is_user usual path value from set same = rw (from, set) (ap Some (sym same))
+pub path_given : (machine : Machine) (is_user : Bool) (usual search_path : List (List ℕ)) (value : List ℕ) → usual_path machine is_user ≡ Some usual
+    → variable_on machine (codes "SYSTEMD_UNIT_PATH") ≡ Some value → search_path ≡ given_path value usual → machine_path machine is_user ≡ Some search_path
+path_given machine is_user usual search_path value from set same = rw (from, set) (ap Some (sym same))

@@ -15,20 +15,20 @@ use Rattle.cal_tasks.specs.rules.Unguarded.{UnguardedView, entry_of, has_excepti
 use Rattle.cal_answers.specs.rules.LintUnits.{is_in_folders}
 use Rattle.cal_answers.specs.rules.Unguarded.{is_unguarded, own_elsewhere, service_stem, starts_silent_service}
 
-pub elsewhere_in_path : (path : List (List ℕ)) (files : List UnitText) → is_in_folders path files ≡ true → None ≡ own_elsewhere path files
-elsewhere_in_path path [] h = refl
-elsewhere_in_path path (own ∷ rest) h = rw h refl
+pub elsewhere_in_path : (search_path : List (List ℕ)) (files : List UnitText) → is_in_folders search_path files ≡ true → None ≡ own_elsewhere search_path files
+elsewhere_in_path search_path [] h = refl
+elsewhere_in_path search_path (own ∷ rest) h = rw h refl
 
-pub elsewhere_first : (path : List (List ℕ)) (files : List UnitText) (own : UnitText) → is_in_folders path files ≡ false → slice_get files 0 ≡ Some own
-    → Some (string_bytes own.path) ≡ own_elsewhere path files
-elsewhere_first path [] own h is = absurd (cc)
-elsewhere_first path (first ∷ rest) own h is =
+pub elsewhere_first : (search_path : List (List ℕ)) (files : List UnitText) (own : UnitText) → is_in_folders search_path files ≡ false → slice_get files 0 ≡ Some own
+    → Some (string_bytes own.path) ≡ own_elsewhere search_path files
+elsewhere_first search_path [] own h is = absurd (cc)
+elsewhere_first search_path (first ∷ rest) own h is =
     let same : first ≡ own = cc in
     ap (λ (own : UnitText). Some (string_bytes own.path)) (sym same) ∙ rw h refl
 
-pub elsewhere_none : (path : List (List ℕ)) (files : List UnitText) → slice_get files 0 ≡ None → None ≡ own_elsewhere path files
-elsewhere_none path [] is = refl
-elsewhere_none path (own ∷ rest) is = absurd (cc)
+pub elsewhere_none : (search_path : List (List ℕ)) (files : List UnitText) → slice_get files 0 ≡ None → None ≡ own_elsewhere search_path files
+elsewhere_none search_path [] is = refl
+elsewhere_none search_path (own ∷ rest) is = absurd (cc)
 
 -- what `strip_suffix` returns for the name of a unit is the stem of a service
 pub stem_is : (unit : List ℕ) (result : Option (Bor (List ℕ)))
@@ -44,16 +44,16 @@ stem_is unit (Some stem) h =
     rw (sym ends) (ap Some (h.2 ∙ ap (λ k. take (length unit - k) unit) h.1.0))
 
 -- a timer without exceptions isn't unguarded
-pub not_unguarded : (machine : Machine) (path : List (List ℕ)) (is_user : Bool) (timer : LoadedTimer)
-    → false ≡ has_exceptions timer → false ≡ is_unguarded machine path is_user timer
+pub not_unguarded : (machine : Machine) (search_path : List (List ℕ)) (is_user : Bool) (timer : LoadedTimer)
+    → false ≡ has_exceptions timer → false ≡ is_unguarded machine search_path is_user timer
 unfolding is_unguarded
-not_unguarded machine path is_user timer none = ap (λ has. has && starts_silent_service machine path is_user timer) none
+not_unguarded machine search_path is_user timer none = ap (λ has. has && starts_silent_service machine search_path is_user timer) none
 
 -- a timer with exceptions is unguarded if its service doesn't ask
-pub unguarded_if : (machine : Machine) (path : List (List ℕ)) (is_user : Bool) (timer : LoadedTimer) (is : Bool)
-    → true ≡ has_exceptions timer → is ≡ starts_silent_service machine path is_user timer → is ≡ is_unguarded machine path is_user timer
+pub unguarded_if : (machine : Machine) (search_path : List (List ℕ)) (is_user : Bool) (timer : LoadedTimer) (is : Bool)
+    → true ≡ has_exceptions timer → is ≡ starts_silent_service machine search_path is_user timer → is ≡ is_unguarded machine search_path is_user timer
 unfolding is_unguarded
-unguarded_if machine path is_user timer is some e = e ∙ ap (λ has. has && starts_silent_service machine path is_user timer) some
+unguarded_if machine search_path is_user timer is some e = e ∙ ap (λ has. has && starts_silent_service machine search_path is_user timer) some
 
 kept_one : (passes : Bool) (test : LoadedTimer → Bool) (timer : LoadedTimer) → test timer ≡ passes
     → map entry_of (filter test (timer ∷ [])) ≡ (if passes then entry_of timer ∷ [] else [])

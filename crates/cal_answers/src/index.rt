@@ -24,16 +24,16 @@ pub(crate) fn index_for<T: Tree>(
     tree: &mut T,
     question: &Question,
     about: Option<&str>,
-    path: &[String],
+    search_path: &[String],
 ) -> Result<UnitIndex, AllocError>
     ensures known { IfOk result (λ index. (machine : Machine) → T.shows tree.new machine
-        → IsIndexFor machine (map string_bytes path.now) index) }
+        → IsIndexFor machine (map string_bytes search_path.now) index) }
     ensures whole { needs_units question.entry.now (option_map (λ name. name.now) about.entry) ≡ true → IfOk result (λ index. (machine : Machine)
-        → T.shows tree.new machine → IsIndexOf machine (map string_bytes path.now) index) }
+        → T.shows tree.new machine → IsIndexOf machine (map string_bytes search_path.now) index) }
     ensures grows { (machine : Machine) → T.shows tree.new machine → T.shows tree.old machine }
 {
     if needs_units(question, about) {
-        UnitIndex::read(alloc, tree, path)
+        UnitIndex::read(alloc, tree, search_path)
     } else {
         UnitIndex::read(alloc, tree, &[])
     }

@@ -121,8 +121,8 @@ fn problems_of_timers(
     index: &UnitIndex,
     timers: &Loaded,
 ) -> Result<Vec<Candidate>, AllocError>
-    ensures { IfOk result (λ found. (machine : Machine) (path : List (List ℕ)) → IsIndexOf machine path index.now
-        → map shown_candidate found.items ≡ problems_of_timers at.entry machine path timers.now) }
+    ensures { IfOk result (λ found. (machine : Machine) (search_path : List (List ℕ)) → IsIndexOf machine search_path index.now
+        → map shown_candidate found.items ≡ problems_of_timers at.entry machine search_path timers.now) }
 {
     let mut found = Vec::new(alloc);
     add_failed(alloc, timers.faults.as_slice(), &mut found)?;
@@ -160,8 +160,8 @@ fn unread(
     timers: &Loaded,
     crontabs: &Crontabs,
 ) -> Result<Vec<Candidate>, AllocError>
-    ensures { IfOk result (λ found. (machine : Machine) (path : List (List ℕ)) → IsIndexOf machine path index.now
-        → map shown_candidate found.items ≡ unread machine path files.now timers.now crontabs.now) }
+    ensures { IfOk result (λ found. (machine : Machine) (search_path : List (List ℕ)) → IsIndexOf machine search_path index.now
+        → map shown_candidate found.items ≡ unread machine search_path files.now timers.now crontabs.now) }
 {
     let mut found = Vec::new(alloc);
     add_unread(alloc, files.faults.as_slice(), &mut found)?;

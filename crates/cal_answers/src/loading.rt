@@ -32,9 +32,9 @@ pub(crate) fn load_by_verb<'q, T: Tree>(
     about: Option<&str>,
 ) -> Result<LoadedByVerb<'q>, AllocError>
     ensures question { IfOk result (IsLoadedFor question.entry.now) }
-    ensures known { IfOk result (λ loaded. (machine : Machine) (path : List (List ℕ)) → T.shows tree.new machine
-        → IsIndexOf machine path index.now → AreLoadedOn machine path (option_map (λ name. name.now) about.entry) loaded) }
-    ensures whole { IfOk result (AreAll (λ machine path. T.shows tree.new machine × IsIndexOf machine path index.now)
+    ensures known { IfOk result (λ loaded. (machine : Machine) (search_path : List (List ℕ)) → T.shows tree.new machine
+        → IsIndexOf machine search_path index.now → AreLoadedOn machine search_path (option_map (λ name. name.now) about.entry) loaded) }
+    ensures whole { IfOk result (AreAll (λ machine search_path. T.shows tree.new machine × IsIndexOf machine search_path index.now)
         (asks_all question.entry.now) (option_map (λ name. name.now) about.entry)) }
     ensures grows { (machine : Machine) → T.shows tree.new machine → T.shows tree.old machine }
 {
@@ -133,9 +133,9 @@ fn load_named<T: Tree>(
     named: &[String],
     is_all: bool,
 ) -> Result<Loaded, AllocError>
-    ensures known { IfOk result (λ loaded. (machine : Machine) (path : List (List ℕ)) → T.shows tree.new machine
-        → IsIndexOf machine path index.now → AreTimersOn machine path loaded) }
-    ensures whole { IfOk result (HasAllFor (λ machine path. T.shows tree.new machine × IsIndexOf machine path index.now) is_all
+    ensures known { IfOk result (λ loaded. (machine : Machine) (search_path : List (List ℕ)) → T.shows tree.new machine
+        → IsIndexOf machine search_path index.now → AreTimersOn machine search_path loaded) }
+    ensures whole { IfOk result (HasAllFor (λ machine search_path. T.shows tree.new machine × IsIndexOf machine search_path index.now) is_all
         (map string_bytes named.now)) }
     ensures grows { (machine : Machine) → T.shows tree.new machine → T.shows tree.old machine }
 {
@@ -184,12 +184,12 @@ fn load_linted<T: Tree>(
     named: &[String],
     is_all: bool,
 ) -> Result<(LoadedFiles, Loaded, Crontabs), AllocError>
-    ensures known { IfOk result (λ all. (machine : Machine) (path : List (List ℕ)) → T.shows tree.new machine
-        → IsIndexOf machine path index.now → AreLintedOn machine path (map string_bytes named.now) all.0 all.1 all.2) }
-    ensures whole { IfOk result (λ all. HasAllLinted (λ machine path. T.shows tree.new machine × IsIndexOf machine path index.now) is_all
+    ensures known { IfOk result (λ all. (machine : Machine) (search_path : List (List ℕ)) → T.shows tree.new machine
+        → IsIndexOf machine search_path index.now → AreLintedOn machine search_path (map string_bytes named.now) all.0 all.1 all.2) }
+    ensures whole { IfOk result (λ all. HasAllLinted (λ machine search_path. T.shows tree.new machine × IsIndexOf machine search_path index.now) is_all
         (map string_bytes named.now) all.1) }
-    ensures files { IfOk result (λ all. (machine : Machine) (path : List (List ℕ)) → T.shows tree.new machine
-        → IsIndexOf machine path index.now → AreFilesOn machine path is_all (map string_bytes named.now) all.0) }
+    ensures files { IfOk result (λ all. (machine : Machine) (search_path : List (List ℕ)) → T.shows tree.new machine
+        → IsIndexOf machine search_path index.now → AreFilesOn machine search_path is_all (map string_bytes named.now) all.0) }
     ensures grows { (machine : Machine) → T.shows tree.new machine → T.shows tree.old machine }
 {
     let texts = texts_of(alloc, named)?;
@@ -205,12 +205,12 @@ fn load_lint_targets<T: Tree>(
     targets: &[&str],
     is_all: bool,
 ) -> Result<(LoadedFiles, Loaded, Crontabs), AllocError>
-    ensures known { IfOk result (λ all. (machine : Machine) (path : List (List ℕ)) → T.shows tree.new machine
-        → IsIndexOf machine path index.now → AreLintedOn machine path (map (λ text. text.now) targets.now) all.0 all.1 all.2) }
-    ensures whole { IfOk result (λ all. HasAllLinted (λ machine path. T.shows tree.new machine × IsIndexOf machine path index.now) is_all
+    ensures known { IfOk result (λ all. (machine : Machine) (search_path : List (List ℕ)) → T.shows tree.new machine
+        → IsIndexOf machine search_path index.now → AreLintedOn machine search_path (map (λ text. text.now) targets.now) all.0 all.1 all.2) }
+    ensures whole { IfOk result (λ all. HasAllLinted (λ machine search_path. T.shows tree.new machine × IsIndexOf machine search_path index.now) is_all
         (map (λ text. text.now) targets.now) all.1) }
-    ensures files { IfOk result (λ all. (machine : Machine) (path : List (List ℕ)) → T.shows tree.new machine
-        → IsIndexOf machine path index.now → AreFilesOn machine path is_all (map (λ text. text.now) targets.now) all.0) }
+    ensures files { IfOk result (λ all. (machine : Machine) (search_path : List (List ℕ)) → T.shows tree.new machine
+        → IsIndexOf machine search_path index.now → AreFilesOn machine search_path is_all (map (λ text. text.now) targets.now) all.0) }
     ensures grows { (machine : Machine) → T.shows tree.new machine → T.shows tree.old machine }
 {
     if targets.is_empty() {
@@ -232,11 +232,11 @@ fn load_lint_units<T: Tree>(
     index: &UnitIndex,
     is_all: bool,
 ) -> Result<(LoadedFiles, Loaded, Crontabs), AllocError>
-    ensures known { IfOk result (λ all. (machine : Machine) (path : List (List ℕ)) → T.shows tree.new machine
-        → IsIndexOf machine path index.now → AreLintedOn machine path [] all.0 all.1 all.2) }
-    ensures whole { IfOk result (λ all. HasUnits (λ machine path. T.shows tree.new machine × IsIndexOf machine path index.now) is_all all.1) }
-    ensures files { IfOk result (λ all. (machine : Machine) (path : List (List ℕ)) → T.shows tree.new machine
-        → IsIndexOf machine path index.now → AreFilesOn machine path is_all [] all.0) }
+    ensures known { IfOk result (λ all. (machine : Machine) (search_path : List (List ℕ)) → T.shows tree.new machine
+        → IsIndexOf machine search_path index.now → AreLintedOn machine search_path [] all.0 all.1 all.2) }
+    ensures whole { IfOk result (λ all. HasUnits (λ machine search_path. T.shows tree.new machine × IsIndexOf machine search_path index.now) is_all all.1) }
+    ensures files { IfOk result (λ all. (machine : Machine) (search_path : List (List ℕ)) → T.shows tree.new machine
+        → IsIndexOf machine search_path index.now → AreFilesOn machine search_path is_all [] all.0) }
     ensures grows { (machine : Machine) → T.shows tree.new machine → T.shows tree.old machine }
 {
     times_are_read();
@@ -303,8 +303,8 @@ fn load_other_files<T: Tree>(
 ) -> Result<LoadedFiles, AllocError>
     ensures known { IfOk result (λ files. (machine : Machine) → T.shows tree.new machine
         → All (IsStoredOn machine) files.files.items) }
-    ensures files { IfOk result (λ files. (machine : Machine) (path : List (List ℕ)) → T.shows tree.new machine
-        → IsIndexOf machine path index.now → AreFilesOf machine path (map (λ text. text.now) targets.now) files) }
+    ensures files { IfOk result (λ files. (machine : Machine) (search_path : List (List ℕ)) → T.shows tree.new machine
+        → IsIndexOf machine search_path index.now → AreFilesOf machine search_path (map (λ text. text.now) targets.now) files) }
     ensures grows { (machine : Machine) → T.shows tree.new machine → T.shows tree.old machine }
 {
     if targets.is_empty() {
@@ -333,8 +333,8 @@ fn load_whole_timers<T: Tree>(
     targets: &[&str],
     is_all: bool,
 ) -> Result<Loaded, AllocError>
-    ensures known { IfOk result (λ loaded. (machine : Machine) (path : List (List ℕ)) → T.shows tree.new machine
-        → IsIndexOf machine path index.now → All (IsTimerOn machine path) loaded.timers.items) }
+    ensures known { IfOk result (λ loaded. (machine : Machine) (search_path : List (List ℕ)) → T.shows tree.new machine
+        → IsIndexOf machine search_path index.now → All (IsTimerOn machine search_path) loaded.timers.items) }
     ensures none { targets.now ≡ [] → IfOk result (λ loaded. loaded.timers.items ≡ []) }
     ensures grows { (machine : Machine) → T.shows tree.new machine → T.shows tree.old machine }
 {
@@ -362,8 +362,8 @@ fn load_sides<T: Tree>(
     one: &str,
     other: &str,
 ) -> Result<(Loaded, Loaded), AllocError>
-    ensures known { IfOk result (λ both. (machine : Machine) (path : List (List ℕ)) → T.shows tree.new machine
-        → IsIndexOf machine path index.now → IsSideOn machine path one.now both.0 × IsSideOn machine path other.now both.1) }
+    ensures known { IfOk result (λ both. (machine : Machine) (search_path : List (List ℕ)) → T.shows tree.new machine
+        → IsIndexOf machine search_path index.now → IsSideOn machine search_path one.now both.0 × IsSideOn machine search_path other.now both.1) }
     ensures grows { (machine : Machine) → T.shows tree.new machine → T.shows tree.old machine }
 {
     let first = load_side(alloc, tree, index, one)?;
@@ -380,8 +380,8 @@ fn load_side<T: Tree>(
     index: &UnitIndex,
     target: &str,
 ) -> Result<Loaded, AllocError>
-    ensures known { IfOk result (λ loaded. (machine : Machine) (path : List (List ℕ)) → T.shows tree.new machine
-        → IsIndexOf machine path index.now → IsSideOn machine path target.now loaded) }
+    ensures known { IfOk result (λ loaded. (machine : Machine) (search_path : List (List ℕ)) → T.shows tree.new machine
+        → IsIndexOf machine search_path index.now → IsSideOn machine search_path target.now loaded) }
     ensures grows { (machine : Machine) → T.shows tree.new machine → T.shows tree.old machine }
 {
     let loaded = load_timers(alloc, tree, index, &[target], false)?;
@@ -422,9 +422,9 @@ fn load_due<T: Tree>(
     index: &UnitIndex,
     about: Option<&str>,
 ) -> Result<Option<Loaded>, AllocError>
-    ensures known { IfOk result (λ timer. (machine : Machine) (path : List (List ℕ)) → T.shows tree.new machine
-        → IsIndexOf machine path index.now → IsDueOn machine path (option_map (λ name. name.now) about.entry) timer) }
-    ensures whole { IfOk result (HasDue (λ machine path. T.shows tree.new machine × IsIndexOf machine path index.now)
+    ensures known { IfOk result (λ timer. (machine : Machine) (search_path : List (List ℕ)) → T.shows tree.new machine
+        → IsIndexOf machine search_path index.now → IsDueOn machine search_path (option_map (λ name. name.now) about.entry) timer) }
+    ensures whole { IfOk result (HasDue (λ machine search_path. T.shows tree.new machine × IsIndexOf machine search_path index.now)
         (option_map (λ name. name.now) about.entry)) }
     ensures grows { (machine : Machine) → T.shows tree.new machine → T.shows tree.old machine }
 {

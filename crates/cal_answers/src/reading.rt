@@ -63,11 +63,17 @@ fn read_known<'q, T: Tree>(
     check_root(alloc, tree, command.options.root.as_str())?;
     let local = find_local(alloc, tree, command)?;
     let shown = find_shown(alloc, tree, command)?;
-    let path = search_path(alloc, tree, command.options.is_user)?;
+    let search_path = search_path(alloc, tree, command.options.is_user)?;
     let timer = due_on(alloc, tree, &command.question)?;
     let about = timer.as_deref();
     let range = RangeZones::load(alloc, tree, &command.question)?;
-    let index = index_for(alloc, tree, &command.question, about, path.as_slice())?;
+    let index = index_for(
+        alloc,
+        tree,
+        &command.question,
+        about,
+        search_path.as_slice(),
+    )?;
     let loaded = load_by_verb(alloc, tree, &index, &command.question, about)?;
     let unguarded = unguarded_on(alloc, tree, &index, command.options.is_user, &loaded)?;
     Ok(Known {

@@ -16,9 +16,9 @@ ghost use Rattle.cal_answers.specs.rules.LintRows.{Listed, lint_counts};
 /// The status of `lint` is 1 exactly if there are error lines, if it prints an error or if, with `--strict`, it prints a
 /// warning. The numbers in the last line of the text add up to the number of the problems.
 pub fn lint_fails_for_what_it_prints()
-    ensures status { (context : Context) (is_strict : Bool) (machine : Machine) (path : List (List ℕ)) (files : LoadedFiles) (loaded : Loaded) (crontabs : Crontabs) (out err : List ℕ) (status : ℕ)
-        → (is : IsLint context is_strict machine path files loaded crontabs out err status)
-        → (status ≡ 1) ↔ IsFailure is_strict (has_lines err) (all_problems context machine path loaded is.found) }
+    ensures status { (context : Context) (is_strict : Bool) (machine : Machine) (search_path : List (List ℕ)) (files : LoadedFiles) (loaded : Loaded) (crontabs : Crontabs) (out err : List ℕ) (status : ℕ)
+        → (is : IsLint context is_strict machine search_path files loaded crontabs out err status)
+        → (status ≡ 1) ↔ IsFailure is_strict (has_lines err) (all_problems context machine search_path loaded is.found) }
     ensures counts { (listed : List Listed) → (lint_counts listed).errors + (lint_counts listed).warnings ≡ length listed }
 {}
 

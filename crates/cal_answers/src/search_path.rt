@@ -19,8 +19,8 @@ pub(crate) fn search_path<T: Tree>(
     tree: &mut T,
     is_user: bool,
 ) -> Result<Vec<String>, ReadFault>
-    ensures known { IfOk result (λ path. (machine : Machine) → T.shows tree.new machine
-        → machine_path machine is_user ≡ Some (map string_bytes path.items)) }
+    ensures known { IfOk result (λ search_path. (machine : Machine) → T.shows tree.new machine
+        → machine_path machine is_user ≡ Some (map string_bytes search_path.items)) }
     ensures fault { IfErr result (λ fault. fault ≢ ReadFault.NoMemory → (machine : Machine) → T.shows tree.new machine → machine_path machine is_user ≡ None) }
     ensures grows { (machine : Machine) → T.shows tree.new machine → T.shows tree.old machine }
 {
@@ -40,8 +40,8 @@ fn usual_path<T: Tree>(
     tree: &mut T,
     is_user: bool,
 ) -> Result<Option<Vec<String>>, AllocError>
-    ensures known { IfOk result (λ path. (machine : Machine) → T.shows tree.new machine
-        → usual_path machine is_user ≡ option_map (λ path. map string_bytes path.items) path) }
+    ensures known { IfOk result (λ search_path. (machine : Machine) → T.shows tree.new machine
+        → usual_path machine is_user ≡ option_map (λ search_path. map string_bytes search_path.items) search_path) }
     ensures grows { (machine : Machine) → T.shows tree.new machine → T.shows tree.old machine }
 {
     if is_user {
@@ -52,8 +52,8 @@ fn usual_path<T: Tree>(
 }
 
 fn usual_user_path<T: Tree>(alloc: Global, tree: &mut T) -> Result<Option<Vec<String>>, AllocError>
-    ensures known { IfOk result (λ path. (machine : Machine) → T.shows tree.new machine
-        → user_path (variables_on machine) ≡ option_map (λ path. map string_bytes path.items) path) }
+    ensures known { IfOk result (λ search_path. (machine : Machine) → T.shows tree.new machine
+        → user_path (variables_on machine) ≡ option_map (λ search_path. map string_bytes search_path.items) search_path) }
     ensures grows { (machine : Machine) → T.shows tree.new machine → T.shows tree.old machine }
 {
     let home = variable(alloc, tree, "HOME")?;

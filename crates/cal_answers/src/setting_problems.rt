@@ -89,8 +89,8 @@ pub(crate) fn add_missing_units(
     timers: &[LoadedTimer],
     found: &mut Vec<Candidate>,
 ) -> Result<(), AllocError>
-    ensures { OnOk result ((machine : Machine) (path : List (List ℕ)) → IsIndexOf machine path index.now
-        → map shown_candidate found.new.items ≡ map shown_candidate found.old.items ++ missing_units machine path timers.now) }
+    ensures { OnOk result ((machine : Machine) (search_path : List (List ℕ)) → IsIndexOf machine search_path index.now
+        → map shown_candidate found.new.items ≡ map shown_candidate found.old.items ++ missing_units machine search_path timers.now) }
 {
     if !index.unreadable().is_empty() {
         return Ok(());
@@ -104,9 +104,9 @@ fn add_missing(
     timers: &[LoadedTimer],
     found: &mut Vec<Candidate>,
 ) -> Result<(), AllocError>
-    ensures { OnOk result ((machine : Machine) (path : List (List ℕ)) → IsIndexOf machine path index.now
+    ensures { OnOk result ((machine : Machine) (search_path : List (List ℕ)) → IsIndexOf machine search_path index.now
         → map shown_candidate found.new.items ≡ map shown_candidate found.old.items
-        ++ flat_map (λ timer. missing_error timer (missing_unit machine path timer)) timers.now) }
+        ++ flat_map (λ timer. missing_error timer (missing_unit machine search_path timer)) timers.now) }
 {
     for timer in timers {
         let unit = missing_unit(alloc, index, timer)?;
@@ -150,8 +150,8 @@ fn missing_unit(
     index: &UnitIndex,
     timer: &LoadedTimer,
 ) -> Result<Option<String>, AllocError>
-    ensures { IfOk result (λ unit. (machine : Machine) (path : List (List ℕ)) → IsIndexOf machine path index.now
-        → option_map string_bytes unit ≡ missing_unit machine path timer.now) }
+    ensures { IfOk result (λ unit. (machine : Machine) (search_path : List (List ℕ)) → IsIndexOf machine search_path index.now
+        → option_map string_bytes unit ≡ missing_unit machine search_path timer.now) }
 {
     if !is_in_search_path(index, timer.files.texts.as_slice()) {
         return Ok(None);
@@ -166,8 +166,8 @@ fn if_missing(
     index: &UnitIndex,
     unit: Option<String>,
 ) -> Result<Option<String>, AllocError>
-    ensures { IfOk result (λ missing. (machine : Machine) (path : List (List ℕ)) → IsIndexOf machine path index.now
-        → option_map string_bytes missing ≡ if_missing machine path (option_map string_bytes unit)) }
+    ensures { IfOk result (λ missing. (machine : Machine) (search_path : List (List ℕ)) → IsIndexOf machine search_path index.now
+        → option_map string_bytes missing ≡ if_missing machine search_path (option_map string_bytes unit)) }
 {
     let Some(unit) = unit else {
         return Ok(None);
@@ -181,8 +181,8 @@ fn if_missing(
 /// Returns whether the first of these files, a timer's own file, is in a folder of the search path. If it isn't, a path
 /// or a folder was given as a target, and the unit that the timer starts can be in any folder.
 pub(crate) fn is_in_search_path(index: &UnitIndex, files: &[UnitText]) -> bool
-    ensures { (machine : Machine) (path : List (List ℕ)) → IsIndexOf machine path index.now
-        → result ≡ is_in_folders path files.now }
+    ensures { (machine : Machine) (search_path : List (List ℕ)) → IsIndexOf machine search_path index.now
+        → result ≡ is_in_folders search_path files.now }
 {
     match files.first() {
         Some(own) => index.folders().iter().any(|folder| is_directly_in(

@@ -30,8 +30,8 @@ pub(crate) fn unguarded_on<T: Tree>(
     is_user: bool,
     loaded: &LoadedByVerb<'_>,
 ) -> Result<Vec<UnguardedTimer>, AllocError>
-    ensures known { IfOk result (λ list. (machine : Machine) (path : List (List ℕ)) → T.shows tree.new machine
-        → IsIndexOf machine path index.now → map unguarded_seen list.items ≡ unguarded_on machine path is_user loaded.now) }
+    ensures known { IfOk result (λ list. (machine : Machine) (search_path : List (List ℕ)) → T.shows tree.new machine
+        → IsIndexOf machine search_path index.now → map unguarded_seen list.items ≡ unguarded_on machine search_path is_user loaded.now) }
     ensures grows { (machine : Machine) → T.shows tree.new machine → T.shows tree.old machine }
 {
     match loaded {
@@ -56,8 +56,8 @@ fn unguarded_among<T: Tree>(
     is_user: bool,
     timers: &[LoadedTimer],
 ) -> Result<Vec<UnguardedTimer>, AllocError>
-    ensures known { IfOk result (λ list. (machine : Machine) (path : List (List ℕ)) → T.shows tree.new machine
-        → IsIndexOf machine path index.now → map unguarded_seen list.items ≡ unguarded_among machine path is_user timers.now) }
+    ensures known { IfOk result (λ list. (machine : Machine) (search_path : List (List ℕ)) → T.shows tree.new machine
+        → IsIndexOf machine search_path index.now → map unguarded_seen list.items ≡ unguarded_among machine search_path is_user timers.now) }
     ensures grows { (machine : Machine) → T.shows tree.new machine → T.shows tree.old machine }
 {
     let mut list = Vec::new(alloc);
@@ -76,10 +76,10 @@ fn push_if_unguarded<T: Tree>(
     timer: &LoadedTimer,
     list: &mut Vec<UnguardedTimer>,
 ) -> Result<(), AllocError>
-    ensures known { OnOk result ((machine : Machine) (path : List (List ℕ)) → T.shows tree.new machine
-        → IsIndexOf machine path index.now → map unguarded_seen list.new.items
+    ensures known { OnOk result ((machine : Machine) (search_path : List (List ℕ)) → T.shows tree.new machine
+        → IsIndexOf machine search_path index.now → map unguarded_seen list.new.items
         ≡ map unguarded_seen list.old.items
-        ++ (if is_unguarded machine path is_user timer.now then entry_of timer.now ∷ [] else [])) }
+        ++ (if is_unguarded machine search_path is_user timer.now then entry_of timer.now ∷ [] else [])) }
     ensures grows { (machine : Machine) → T.shows tree.new machine → T.shows tree.old machine }
 {
     if is_unguarded(alloc, tree, index, is_user, timer)? {
@@ -105,8 +105,8 @@ fn is_unguarded<T: Tree>(
     is_user: bool,
     timer: &LoadedTimer,
 ) -> Result<bool, AllocError>
-    ensures known { IfOk result (λ is. (machine : Machine) (path : List (List ℕ)) → T.shows tree.new machine
-        → IsIndexOf machine path index.now → is ≡ is_unguarded machine path is_user timer.now) }
+    ensures known { IfOk result (λ is. (machine : Machine) (search_path : List (List ℕ)) → T.shows tree.new machine
+        → IsIndexOf machine search_path index.now → is ≡ is_unguarded machine search_path is_user timer.now) }
     ensures grows { (machine : Machine) → T.shows tree.new machine → T.shows tree.old machine }
 {
     if has_exceptions(timer) {
@@ -123,8 +123,8 @@ fn starts_silent_service<T: Tree>(
     is_user: bool,
     timer: &LoadedTimer,
 ) -> Result<bool, AllocError>
-    ensures known { IfOk result (λ is. (machine : Machine) (path : List (List ℕ)) → T.shows tree.new machine
-        → IsIndexOf machine path index.now → is ≡ starts_silent_service machine path is_user timer.now) }
+    ensures known { IfOk result (λ is. (machine : Machine) (search_path : List (List ℕ)) → T.shows tree.new machine
+        → IsIndexOf machine search_path index.now → is ≡ starts_silent_service machine search_path is_user timer.now) }
     ensures grows { (machine : Machine) → T.shows tree.new machine → T.shows tree.old machine }
 {
     let files = timer.files.texts.as_slice();
@@ -148,9 +148,9 @@ fn starts_silent<T: Tree>(
     files: &[UnitText],
     unit: Option<&str>,
 ) -> Result<bool, AllocError>
-    ensures known { IfOk result (λ is. (machine : Machine) (path : List (List ℕ)) → T.shows tree.new machine
-        → IsIndexOf machine path index.now
-        → is ≡ starts_silent machine (folders_for path files.now) is_user (option_map (λ unit. unit.now) unit.entry)) }
+    ensures known { IfOk result (λ is. (machine : Machine) (search_path : List (List ℕ)) → T.shows tree.new machine
+        → IsIndexOf machine search_path index.now
+        → is ≡ starts_silent machine (folders_for search_path files.now) is_user (option_map (λ unit. unit.now) unit.entry)) }
     ensures grows { (machine : Machine) → T.shows tree.new machine → T.shows tree.old machine }
 {
     match unit {
@@ -168,9 +168,9 @@ fn is_silent<T: Tree>(
     files: &[UnitText],
     stem: Option<&str>,
 ) -> Result<bool, AllocError>
-    ensures known { IfOk result (λ is. (machine : Machine) (path : List (List ℕ)) → T.shows tree.new machine
-        → IsIndexOf machine path index.now
-        → is ≡ is_silent machine (folders_for path files.now) is_user (option_map (λ stem. stem.now) stem.entry)) }
+    ensures known { IfOk result (λ is. (machine : Machine) (search_path : List (List ℕ)) → T.shows tree.new machine
+        → IsIndexOf machine search_path index.now
+        → is ≡ is_silent machine (folders_for search_path files.now) is_user (option_map (λ stem. stem.now) stem.entry)) }
     ensures grows { (machine : Machine) → T.shows tree.new machine → T.shows tree.old machine }
 {
     match stem {
@@ -188,8 +188,8 @@ fn asks<T: Tree>(
     files: &[UnitText],
     stem: &str,
 ) -> Result<bool, AllocError>
-    ensures known { IfOk result (λ asks. (machine : Machine) (path : List (List ℕ)) → T.shows tree.new machine
-        → IsIndexOf machine path index.now → asks ≡ asks_due_on machine (folders_for path files.now) is_user stem.now) }
+    ensures known { IfOk result (λ asks. (machine : Machine) (search_path : List (List ℕ)) → T.shows tree.new machine
+        → IsIndexOf machine search_path index.now → asks ≡ asks_due_on machine (folders_for search_path files.now) is_user stem.now) }
     ensures grows { (machine : Machine) → T.shows tree.new machine → T.shows tree.old machine }
 {
     match own_elsewhere(index, files) {
@@ -200,8 +200,8 @@ fn asks<T: Tree>(
 
 /// Returns the path of the first of these files, a timer's own file, unless it is in a folder of the search path.
 fn own_elsewhere<'f>(index: &UnitIndex, files: &'f [UnitText]) -> Option<&'f str>
-    ensures { (machine : Machine) (path : List (List ℕ)) → IsIndexOf machine path index.now
-        → option_map (λ own. own.now) result ≡ own_elsewhere path files.now }
+    ensures { (machine : Machine) (search_path : List (List ℕ)) → IsIndexOf machine search_path index.now
+        → option_map (λ own. own.now) result ≡ own_elsewhere search_path files.now }
 {
     if is_in_search_path(index, files) {
         return None;

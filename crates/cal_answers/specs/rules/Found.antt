@@ -42,7 +42,7 @@ use Rattle.cal_answers.specs.rules.Unanswerable.{IsUnanswerableOn}
 
 -- each timer is a unit of the machine, found in this search path, or a single file
 abbrev pub AreTimersOn : Machine → List (List ℕ) → Loaded → Type 0
-AreTimersOn machine path loaded = All (IsTimerOn machine path) loaded.timers.items
+AreTimersOn machine search_path loaded = All (IsTimerOn machine search_path) loaded.timers.items
 
 -- each timer has these expressions, and the zones of the machine that they name
 abbrev pub AreMadeOf : Machine → List (List ℕ) → Loaded → Type 0
@@ -50,7 +50,7 @@ AreMadeOf machine texts loaded = All (IsMadeOf machine texts) loaded.timers.item
 
 -- what was loaded for one side of `same`: units or files of the machine, or the side as an expression
 abbrev pub IsSideOn : Machine → List (List ℕ) → List ℕ → Loaded → Type 0
-IsSideOn machine path side loaded = AreTimersOn machine path loaded ⊎ AreMadeOf machine (side ∷ []) loaded
+IsSideOn machine search_path side loaded = AreTimersOn machine search_path loaded ⊎ AreMadeOf machine (side ∷ []) loaded
 
 abbrev pub is_entry_reason : TargetReason → Bool
 is_entry_reason (reasons.CrontabEntry fault) = true
@@ -66,29 +66,29 @@ is_invalid_entry target loaded = is_entry_fault target (slice_get loaded.faults.
 
 -- what was loaded for `due`: the timer that it is about, or None if it is about no timer
 abbrev pub IsDueOn : Machine → List (List ℕ) → Option (List ℕ) → Option Loaded → Type 0
-IsDueOn machine path None timer = timer ≡ None
-IsDueOn machine path (Some about) None = ⊥
-IsDueOn machine path (Some about) (Some timer) = AreTimersOn machine path timer
+IsDueOn machine search_path None timer = timer ≡ None
+IsDueOn machine search_path (Some about) None = ⊥
+IsDueOn machine search_path (Some about) (Some timer) = AreTimersOn machine search_path timer
 
 -- what was loaded for `lint`: files and timers of the machine, and those of the targets that are crontabs
 abbrev pub AreLintedOn : Machine → List (List ℕ) → List (List ℕ) → LoadedFiles → Loaded → Crontabs → Type 0
-AreLintedOn machine path targets files timers crontabs =
-    All (IsStoredOn machine) files.files.items × AreTimersOn machine path timers × AreNamedCrontabs machine targets crontabs
+AreLintedOn machine search_path targets files timers crontabs =
+    All (IsStoredOn machine) files.files.items × AreTimersOn machine search_path timers × AreNamedCrontabs machine targets crontabs
 
 -- the timers, the files and the crontabs that were loaded are those of the machine; `about` is the timer that `due` is about
 abbrev pub AreLoadedOn : Machine → List (List ℕ) → Option (List ℕ) → LoadedByVerb → Type 0
-AreLoadedOn machine path about (loads.List timers named is_all entries) =
-    AreTimersOn machine path timers × AreCrontabTimersOn machine entries
-AreLoadedOn machine path about (loads.Show timers named count) = AreTimersOn machine path timers
-AreLoadedOn machine path about (loads.Lint files timers crontabs named is_strict) =
-    AreLintedOn machine path (map string_bytes named.now) files timers crontabs
-AreLoadedOn machine path about (loads.Between timers named from to entries) =
-    AreTimersOn machine path timers × AreCrontabTimersOn machine entries
-AreLoadedOn machine path about (loads.Same first one second other) =
-    IsSideOn machine path one.now first × IsSideOn machine path other.now second
-AreLoadedOn machine path about (loads.Next timers expressions count) = AreMadeOf machine (map string_bytes expressions.now) timers
-AreLoadedOn machine path about (loads.Due timer named) = IsDueOn machine path about timer
-AreLoadedOn machine path about (loads.Cron crontabs named) = AreCrontabsOn machine (map string_bytes named.now) crontabs
+AreLoadedOn machine search_path about (loads.List timers named is_all entries) =
+    AreTimersOn machine search_path timers × AreCrontabTimersOn machine entries
+AreLoadedOn machine search_path about (loads.Show timers named count) = AreTimersOn machine search_path timers
+AreLoadedOn machine search_path about (loads.Lint files timers crontabs named is_strict) =
+    AreLintedOn machine search_path (map string_bytes named.now) files timers crontabs
+AreLoadedOn machine search_path about (loads.Between timers named from to entries) =
+    AreTimersOn machine search_path timers × AreCrontabTimersOn machine entries
+AreLoadedOn machine search_path about (loads.Same first one second other) =
+    IsSideOn machine search_path one.now first × IsSideOn machine search_path other.now second
+AreLoadedOn machine search_path about (loads.Next timers expressions count) = AreMadeOf machine (map string_bytes expressions.now) timers
+AreLoadedOn machine search_path about (loads.Due timer named) = IsDueOn machine search_path about timer
+AreLoadedOn machine search_path about (loads.Cron crontabs named) = AreCrontabsOn machine (map string_bytes named.now) crontabs
 
 -- what was loaded belongs to this question, and repeats what the answer needs of it
 abbrev pub IsLoadedFor : Question → LoadedByVerb → Type 0
@@ -141,7 +141,7 @@ needs_units (questions.Cron given) about = false
 abbrev pub HasUnits : (Machine → List (List ℕ) → Type 0) → Bool → Loaded → Type 0
 HasUnits Knows is_all timers =
     HasAllUnits Knows is_all timers
-    × ((machine : Machine) (path : List (List ℕ)) → Knows machine path → shown_stems timers.started ≡ started_if_all machine path is_all)
+    × ((machine : Machine) (search_path : List (List ℕ)) → Knows machine search_path → shown_stems timers.started ≡ started_if_all machine search_path is_all)
 
 -- Everything that these targets stand for was looked for, and nothing else was loaded. Without a target, these are the
 -- units that other units start or, if `is_all` is true, all units.
@@ -158,9 +158,9 @@ HasAllLinted Knows is_all (one ∷ rest) timers = HasNoneIfCrontabs Knows (one �
 -- These are the texts of all files that `lint` examines besides crontabs, and the errors about those that can't be read:
 -- the files of what is named or, if nothing is, of the units that other units start or, if `is_all` is true, of all units.
 abbrev pub AreFilesOn : Machine → List (List ℕ) → Bool → List (List ℕ) → LoadedFiles → Type 0
-AreFilesOn machine path is_all [] files =
-    AreTextsAt machine (all_paths machine path is_all) files.files.items × AreFaultsOf (all_lost machine path is_all) files.faults.items
-AreFilesOn machine path is_all (one ∷ rest) files = AreNamedFiles machine path (one ∷ rest) files
+AreFilesOn machine search_path is_all [] files =
+    AreTextsAt machine (all_paths machine search_path is_all) files.files.items × AreFaultsOf (all_lost machine search_path is_all) files.faults.items
+AreFilesOn machine search_path is_all (one ∷ rest) files = AreNamedFiles machine search_path (one ∷ rest) files
 
 -- The timer that `due` is about was looked for, and nothing else was loaded.
 abbrev pub HasDue : (Machine → List (List ℕ) → Type 0) → Option (List ℕ) → Option Loaded → Type 0
@@ -175,28 +175,28 @@ AreAll Knows all about (loads.List timers named is_all entries) = HasAllFor Know
 AreAll Knows all about (loads.Show timers named count) = HasAllFor Knows all (map string_bytes named.now) timers
 AreAll Knows all about (loads.Lint files timers crontabs named is_strict) =
     HasAllLinted Knows all (map string_bytes named.now) timers
-    × ((machine : Machine) (path : List (List ℕ)) → Knows machine path → AreFilesOn machine path all (map string_bytes named.now) files)
+    × ((machine : Machine) (search_path : List (List ℕ)) → Knows machine search_path → AreFilesOn machine search_path all (map string_bytes named.now) files)
 AreAll Knows all about (loads.Between timers named from to entries) = HasAllFor Knows all (map string_bytes named.now) timers
 AreAll Knows all about (loads.Same first one second other) = ⊤
 AreAll Knows all about (loads.Next timers expressions count) =
-    IsTimerOrReason (λ machine. (path : List (List ℕ)) × Knows machine path) (map string_bytes expressions.now) timers
+    IsTimerOrReason (λ machine. (search_path : List (List ℕ)) × Knows machine search_path) (map string_bytes expressions.now) timers
 AreAll Knows all about (loads.Due timer named) = HasDue Knows about timer
 AreAll Knows all about (loads.Cron crontabs named) = ⊤
 
 -- no timer is missing (`AreAll`) on this machine and search path
 abbrev pub AreAllOn : Machine → List (List ℕ) → Bool → Option (List ℕ) → LoadedByVerb → Type 0
-AreAllOn machine path all about loaded = AreAll (λ other folders. (other ≡ machine) × (folders ≡ path)) all about loaded
+AreAllOn machine search_path all about loaded = AreAll (λ other folders. (other ≡ machine) × (folders ≡ search_path)) all about loaded
 
 -- ## What was found
 
 -- the index is that of this search path, or of an empty search path
 abbrev pub IsIndexFor : Machine → List (List ℕ) → UnitIndex → Type 0
-IsIndexFor machine path index = IsIndexOf machine path index ⊎ IsIndexOf machine [] index
+IsIndexFor machine search_path index = IsIndexOf machine search_path index ⊎ IsIndexOf machine [] index
 
--- the path is the search path of the machine's manager; if no unit is needed, the path may also be empty
+-- the search path is that of the machine's manager; if no unit is needed, it may also be empty
 abbrev pub IsPathOf : Machine → Bool → Bool → List (List ℕ) → Type 0
-IsPathOf machine is_user true path = machine_path machine is_user ≡ Some path
-IsPathOf machine is_user false path = (machine_path machine is_user ≡ Some path) ⊎ (path ≡ [])
+IsPathOf machine is_user true search_path = machine_path machine is_user ≡ Some search_path
+IsPathOf machine is_user false search_path = (machine_path machine is_user ≡ Some search_path) ⊎ (search_path ≡ [])
 
 -- What is known for the question of a command is true on this machine: the local zone, the zone in which times are
 -- shown, the zones that a range names, the index of the search path, and the timers, files and crontabs that were
@@ -205,13 +205,13 @@ pub record IsKnownOn (machine : Machine) (command : Command) (known : Known) : T
   pub local : IsLocalZone machine (local_zone_of machine command) (clock_zone known.local)
   pub shown : IsLocalZone machine (shown_zone_of machine command) (clock_zone known.shown)
   pub range : AreRangeZones machine command.question known.range
-  pub path : List (List ℕ)
-  pub searched : IsPathOf machine command.options.is_user (needs_units command.question (due_on machine command.question)) path
-  pub index : IsIndexOf machine path known.index
+  pub search_path : List (List ℕ)
+  pub searched : IsPathOf machine command.options.is_user (needs_units command.question (due_on machine command.question)) search_path
+  pub index : IsIndexOf machine search_path known.index
   pub for_question : IsLoadedFor command.question known.loaded
-  pub loaded : AreLoadedOn machine path (due_on machine command.question) known.loaded
-  pub whole : AreAllOn machine path (asks_all command.question) (due_on machine command.question) known.loaded
-  pub unguarded : map unguarded_seen known.unguarded.items ≡ unguarded_on machine path command.options.is_user known.loaded
+  pub loaded : AreLoadedOn machine search_path (due_on machine command.question) known.loaded
+  pub whole : AreAllOn machine search_path (asks_all command.question) (due_on machine command.question) known.loaded
+  pub unguarded : map unguarded_seen known.unguarded.items ≡ unguarded_on machine search_path command.options.is_user known.loaded
 
 -- `IsSo` follows from what was read. `given`: all that was read was returned by system calls. `is_so`: `IsSo` holds for
 -- every machine that matches what was read. `possible`: such a machine exists.

@@ -36,8 +36,8 @@ lint_output context lacking listed =
 -- the problems of the files and the crontabs (`found`), followed by those that were found when the timers were loaded,
 -- and the warnings about exceptions that systemd ignores
 abbrev pub all_problems : Context → Machine → List (List ℕ) → Loaded → List Listed → List Listed
-all_problems context machine path loaded found =
-    with_candidates context.style found (problems_of_timers context.at machine path loaded)
+all_problems context machine search_path loaded found =
+    with_candidates context.style found (problems_of_timers context.at machine search_path loaded)
     ++ unguarded_problems context.style context.is_user (map unguarded_seen context.unguarded.now)
 
 -- whether there are error lines
@@ -46,16 +46,16 @@ has_lines err = not (length err == 0)
 
 -- What is printed, besides the error lines `err`, and the exit status: both are those of the same problems. `own` are
 -- the problems of the files, and `found` those of the files and the crontabs.
-pub record IsLint (context : Context) (is_strict : Bool) (machine : Machine) (path : List (List ℕ)) (files : LoadedFiles) (loaded : Loaded) (crontabs : Crontabs) (out err : List ℕ) (status : ℕ) : Type 0 where
+pub record IsLint (context : Context) (is_strict : Bool) (machine : Machine) (search_path : List (List ℕ)) (files : LoadedFiles) (loaded : Loaded) (crontabs : Crontabs) (out err : List ℕ) (status : ℕ) : Type 0 where
   pub own : List Listed
   pub of_files : AreProblemsOfFiles context.style files.files.items own
   pub found : List Listed
   pub of_crontabs : HasCrontabs context.style crontabs.crontabs.items own found
-  pub prints : out ≡ lint_output context (unread machine path files loaded crontabs) (all_problems context machine path loaded found)
-  pub ends : status ≡ lint_status is_strict (lint_counts (all_problems context machine path loaded found)) (has_lines err)
+  pub prints : out ≡ lint_output context (unread machine search_path files loaded crontabs) (all_problems context machine search_path loaded found)
+  pub ends : status ≡ lint_status is_strict (lint_counts (all_problems context machine search_path loaded found)) (has_lines err)
 
 -- `index` is the index of a search path on a machine; what is printed is true of each such machine and search path
 abbrev pub IsLintBy : Context → Bool → UnitIndex → LoadedFiles → Loaded → Crontabs → List ℕ → List ℕ → ℕ → Type 0
 IsLintBy context is_strict index files loaded crontabs out err status =
-    (machine : Machine) (path : List (List ℕ)) → IsIndexOf machine path index
-    → IsLint context is_strict machine path files loaded crontabs out err status
+    (machine : Machine) (search_path : List (List ℕ)) → IsIndexOf machine search_path index
+    → IsLint context is_strict machine search_path files loaded crontabs out err status

@@ -27,17 +27,17 @@ AreNamedCrontabs machine targets crontabs =
 
 -- these are the texts of the files of these targets, and the errors about those that can't be read
 abbrev pub AreFilesOf : Machine → List (List ℕ) → List (List ℕ) → LoadedFiles → Type 0
-AreFilesOf machine path targets files =
-    AreTextsAt machine (flat_map (paths_by machine path) targets) files.files.items
-    × AreFaultsOf (flat_map (lost_by machine path) targets) files.faults.items
+AreFilesOf machine search_path targets files =
+    AreTextsAt machine (flat_map (paths_by machine search_path) targets) files.files.items
+    × AreFaultsOf (flat_map (lost_by machine search_path) targets) files.faults.items
 
 -- these are the texts of the files of all targets except crontabs, and the errors about those that can't be read
 abbrev pub AreNamedFiles : Machine → List (List ℕ) → List (List ℕ) → LoadedFiles → Type 0
-AreNamedFiles machine path targets files =
-    (read : (List ℕ → Result CronExprs CronFault)) × ReadsTimes read × AreFilesOf machine path (other_targets read machine targets) files
+AreNamedFiles machine search_path targets files =
+    (read : (List ℕ → Result CronExprs CronFault)) × ReadsTimes read × AreFilesOf machine search_path (other_targets read machine targets) files
 
 -- if all targets are crontabs on a machine for which `Knows` holds, no timer was loaded
 abbrev pub HasNoneIfCrontabs : (Machine → List (List ℕ) → Type 0) → List (List ℕ) → Loaded → Type 0
 HasNoneIfCrontabs Knows targets timers =
     (read : (List ℕ → Result CronExprs CronFault)) × ReadsTimes read
-    × ((machine : Machine) (path : List (List ℕ)) → Knows machine path → other_targets read machine targets ≡ [] → timers.timers.items ≡ [])
+    × ((machine : Machine) (search_path : List (List ℕ)) → Knows machine search_path → other_targets read machine targets ≡ [] → timers.timers.items ≡ [])

@@ -103,14 +103,14 @@ failed fault = failed_by (string_bytes fault.target) fault.reason
 -- ## Units to start that don't exist
 
 abbrev pub if_missing : Machine → List (List ℕ) → Option (List ℕ) → Option (List ℕ)
-if_missing machine path None = None
-if_missing machine path (Some unit) = if is_missing_on machine path unit then Some unit else None
+if_missing machine search_path None = None
+if_missing machine search_path (Some unit) = if is_missing_on machine search_path unit then Some unit else None
 
 -- the unit that a timer of the search path starts, if no folder of the search path has a file of the unit
 abbrev pub missing_unit : Machine → List (List ℕ) → LoadedTimer → Option (List ℕ)
-missing_unit machine path timer =
-    if is_in_folders path timer.files.texts.items
-    then if_missing machine path (started_unit_of (string_bytes timer.name) (map shown_unit_text timer.files.texts.items))
+missing_unit machine search_path timer =
+    if is_in_folders search_path timer.files.texts.items
+    then if_missing machine search_path (started_unit_of (string_bytes timer.name) (map shown_unit_text timer.files.texts.items))
     else None
 
 abbrev pub missing_error : LoadedTimer → Option (List ℕ) → List Candidate
@@ -119,9 +119,9 @@ missing_error timer (Some unit) = error_about (string_bytes timer.name) (missing
 
 -- an error about each timer whose unit is missing; none if a part of the search path can't be read
 abbrev pub missing_units : Machine → List (List ℕ) → List LoadedTimer → List Candidate
-missing_units machine path timers =
-    if length (unreadable_in machine path) == 0
-    then flat_map (λ timer. missing_error timer (missing_unit machine path timer)) timers else []
+missing_units machine search_path timers =
+    if length (unreadable_in machine search_path) == 0
+    then flat_map (λ timer. missing_error timer (missing_unit machine search_path timer)) timers else []
 
 -- ## Lines without effect
 
@@ -139,10 +139,10 @@ idle_of at timer =
 -- what is wrong with the timers that fail to load, what systemd ignores in the other timers, the timers whose unit is
 -- missing on this machine and search path, and the lines without effect
 abbrev pub problems_of_timers : Present → Machine → List (List ℕ) → Loaded → List Candidate
-problems_of_timers at machine path loaded =
+problems_of_timers at machine search_path loaded =
     flat_map failed loaded.faults.items
     ++ (flat_map ignored_of loaded.timers.items
-    ++ (missing_units machine path loaded.timers.items
+    ++ (missing_units machine search_path loaded.timers.items
     ++ flat_map (idle_of at) loaded.timers.items))
 
 -- ## What can't be read
@@ -159,8 +159,8 @@ path_words fault = Some (fault.path, reason_words fault.reason)
 
 -- an error about everything that can't be found or read: targets, among them crontabs, and parts of the search path
 abbrev pub unread : Machine → List (List ℕ) → LoadedFiles → Loaded → Crontabs → List Candidate
-unread machine path files loaded crontabs =
+unread machine search_path files loaded crontabs =
     unread_errors (map unread_words files.faults.items)
     ++ (unread_errors (map unread_words loaded.faults.items)
     ++ (unread_errors (map path_words (map shown_fault crontabs.faults.items))
-    ++ unread_errors (map path_words (unreadable_in machine path))))
+    ++ unread_errors (map path_words (unreadable_in machine search_path))))

@@ -30,17 +30,17 @@ folder_of path = folder_if (before_last_byte slash path)
 
 -- the path of a timer's own file, the first of its files; None if this file is directly in a folder of the search path
 abbrev pub own_elsewhere : List (List ℕ) → List UnitText → Option (List ℕ)
-own_elsewhere path [] = None
-own_elsewhere path (own ∷ rest) = if is_in_folders path (own ∷ rest) then None else Some (string_bytes own.path)
+own_elsewhere search_path [] = None
+own_elsewhere search_path (own ∷ rest) = if is_in_folders search_path (own ∷ rest) then None else Some (string_bytes own.path)
 
 abbrev pub folders_by : List (List ℕ) → Option (List ℕ) → List (List ℕ)
-folders_by path None = path
-folders_by path (Some own) = folder_of own ∷ []
+folders_by search_path None = search_path
+folders_by search_path (Some own) = folder_of own ∷ []
 
 -- The folders in which the service of a timer with these files is looked for: the search path if the timer's own file
 -- is directly in one of its folders, and otherwise the folder of this file.
 abbrev pub folders_for : List (List ℕ) → List UnitText → List (List ℕ)
-folders_for path files = folders_by path (own_elsewhere path files)
+folders_for search_path files = folders_by search_path (own_elsewhere search_path files)
 
 -- ## Timers
 
@@ -62,25 +62,25 @@ starts_silent machine folders is_user (Some unit) = is_silent machine folders is
 
 -- whether the timer starts a service that doesn't ask
 abbrev pub starts_silent_service : Machine → List (List ℕ) → Bool → LoadedTimer → Bool
-starts_silent_service machine path is_user timer =
-    starts_silent machine (folders_for path timer.files.texts.items) is_user
+starts_silent_service machine search_path is_user timer =
+    starts_silent machine (folders_for search_path timer.files.texts.items) is_user
     (started_unit_of (string_bytes timer.name) (map shown_unit_text timer.files.texts.items))
 
 -- whether the timer is unguarded: it has exceptions, and its service doesn't run `calendar-timers due` as a condition
 unfoldable pub is_unguarded : Machine → List (List ℕ) → Bool → LoadedTimer → Bool
-is_unguarded machine path is_user timer = has_exceptions timer && starts_silent_service machine path is_user timer
+is_unguarded machine search_path is_user timer = has_exceptions timer && starts_silent_service machine search_path is_user timer
 
 -- the unguarded timers among these
 abbrev pub unguarded_among : Machine → List (List ℕ) → Bool → List LoadedTimer → List UnguardedView
-unguarded_among machine path is_user timers = map entry_of (filter (is_unguarded machine path is_user) timers)
+unguarded_among machine search_path is_user timers = map entry_of (filter (is_unguarded machine search_path is_user) timers)
 
 -- the unguarded timers among those that were loaded for `list`, `show` or `lint`; none for the other verbs
 abbrev pub unguarded_on : Machine → List (List ℕ) → Bool → LoadedByVerb → List UnguardedView
-unguarded_on machine path is_user (loads.List timers named is_all entries) = unguarded_among machine path is_user timers.timers.items
-unguarded_on machine path is_user (loads.Show timers named count) = unguarded_among machine path is_user timers.timers.items
-unguarded_on machine path is_user (loads.Lint files timers crontabs named is_strict) = unguarded_among machine path is_user timers.timers.items
-unguarded_on machine path is_user (loads.Between timers named from to entries) = []
-unguarded_on machine path is_user (loads.Same first one second other) = []
-unguarded_on machine path is_user (loads.Next timers expressions count) = []
-unguarded_on machine path is_user (loads.Due timer named) = []
-unguarded_on machine path is_user (loads.Cron crontabs named) = []
+unguarded_on machine search_path is_user (loads.List timers named is_all entries) = unguarded_among machine search_path is_user timers.timers.items
+unguarded_on machine search_path is_user (loads.Show timers named count) = unguarded_among machine search_path is_user timers.timers.items
+unguarded_on machine search_path is_user (loads.Lint files timers crontabs named is_strict) = unguarded_among machine search_path is_user timers.timers.items
+unguarded_on machine search_path is_user (loads.Between timers named from to entries) = []
+unguarded_on machine search_path is_user (loads.Same first one second other) = []
+unguarded_on machine search_path is_user (loads.Next timers expressions count) = []
+unguarded_on machine search_path is_user (loads.Due timer named) = []
+unguarded_on machine search_path is_user (loads.Cron crontabs named) = []

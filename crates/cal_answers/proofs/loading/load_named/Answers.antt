@@ -10,6 +10,6 @@ returns-clause-known g c = c.in_ok-loaded.ensures.known
 pub returns-clause-whole : goal.returns-clause-whole
 returns-clause-whole g c =
     let found = c.in_ok-loaded.ensures in
-    subst (λ texts. HasAllFor (λ machine path. g.T.Tree.shows c.load_timers.new.tree machine × IsIndexOf machine path c.args.index.now) c.args.is_all texts c.in_ok-loaded.loaded)
+    subst (λ texts. HasAllFor (λ machine search_path. g.T.Tree.shows c.load_timers.new.tree machine × IsIndexOf machine search_path c.args.index.now) c.args.is_all texts c.in_ok-loaded.loaded)
     (ap (map (λ text. text.now)) c.as_slice.ensures.value ∙ c.in_ok-texts.ensures)
     (all_for _ _ c.args.is_all c.as_slice.result.now _ found.whole found.started found.targets)

@@ -16,16 +16,16 @@ returns-clause-known g c = λ machine shows.
     let ranged = c.in_ok-index.ensures.grows machine indexed in
     let timed = c.in_ok-range.ensures.grows machine ranged in
     let searched = c.in_ok-timer.ensures.grows machine timed in
-    let found = c.in_ok-path.ensures.grows machine searched in
+    let found = c.in_ok-search_path.ensures.grows machine searched in
     let about : option_map (λ name. name.now) c.as_deref-about.result ≡ due_on machine command.question = search rules in
-    let Knows : Machine → List (List ℕ) → Type 0 = λ other path. g.T.Tree.shows c.load_by_verb.new.tree other × IsIndexOf other path c.in_ok-index.index in
-    known_on machine command _ (map string_bytes c.in_ok-path.path.items) (needs_units command.question (due_on machine command.question)) refl
+    let Knows : Machine → List (List ℕ) → Type 0 = λ other search_path. g.T.Tree.shows c.load_by_verb.new.tree other × IsIndexOf other search_path c.in_ok-index.index in
+    known_on machine command _ (map string_bytes c.in_ok-search_path.search_path.items) (needs_units command.question (due_on machine command.question)) refl
     (c.in_ok-local.ensures.zone machine (c.in_ok-shown.ensures.grows machine found))
     (c.in_ok-shown.ensures.zone machine found)
     (c.in_ok-range.ensures.zones machine ranged)
-    (c.in_ok-path.ensures.known machine searched)
-    (subst (λ path. IsIndexFor machine (map string_bytes path) c.in_ok-index.index) c.as_slice.ensures.value (c.in_ok-index.ensures.known machine indexed))
-    (λ needed. subst (λ path. IsIndexOf machine (map string_bytes path) c.in_ok-index.index) c.as_slice.ensures.value
+    (c.in_ok-search_path.ensures.known machine searched)
+    (subst (λ search_path. IsIndexFor machine (map string_bytes search_path) c.in_ok-index.index) c.as_slice.ensures.value (c.in_ok-index.ensures.known machine indexed))
+    (λ needed. subst (λ search_path. IsIndexOf machine (map string_bytes search_path) c.in_ok-index.index) c.as_slice.ensures.value
     (c.in_ok-index.ensures.whole (ap (needs_units command.question) about ∙ needed) machine indexed))
     c.in_ok-loaded.ensures.question
     (λ folders is. subst (λ about. AreLoadedOn machine folders about c.in_ok-loaded.loaded) about (c.in_ok-loaded.ensures.known machine folders loaded is))
@@ -33,10 +33,10 @@ returns-clause-known g c = λ machine shows.
     (subst (λ about. AreAll Knows (asks_all command.question) about c.in_ok-loaded.loaded) about c.in_ok-loaded.ensures.whole))
     (λ folders is. c.in_ok-unguarded.ensures.known machine folders shows is)
 
-pub returns-in_err-path-clause-fault : goal.returns-in_err-path-clause-fault
-returns-in_err-path-clause-fault g c =
-    let same : c.from_residual-in_err-path.result ≡ Err c.in_err-path.field-0.0 = search rules in
-    rw same (λ other machine shows. inr (inr (inr (c.in_err-path.ensures.fault other machine shows))))
+pub returns-in_err-search_path-clause-fault : goal.returns-in_err-search_path-clause-fault
+returns-in_err-search_path-clause-fault g c =
+    let same : c.from_residual-in_err-search_path.result ≡ Err c.in_err-search_path.field-0.0 = search rules in
+    rw same (λ other machine shows. inr (inr (inr (c.in_err-search_path.ensures.fault other machine shows))))
 
 pub returns-in_err-range-clause-fault : goal.returns-in_err-range-clause-fault
 returns-in_err-range-clause-fault g c =

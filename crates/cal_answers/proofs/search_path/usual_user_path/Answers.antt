@@ -5,7 +5,7 @@ use Rattle.cal_answers.proofs.MachinePathLemmas.{variables_are}
 use Rattle.cal_answers.proofs.search_path.usual_user_path.Goals as goal
 
 pub returns-clause-known : goal.returns-clause-known
-returns-clause-known g c = IfOk-weaker c.user_path.result _ _ (λ path is machine shows.
+returns-clause-known g c = IfOk-weaker c.user_path.result _ _ (λ search_path is machine shows.
     let fifth = c.in_ok-runtime_dir.ensures.grows machine shows in
     let fourth = c.in_ok-data_dirs.ensures.grows machine fifth in
     let third = c.in_ok-data_home.ensures.grows machine fourth in

@@ -10,6 +10,6 @@ use Rattle.cal_answers.proofs.setting_problems.add_missing.Given as goal
 
 abbrev pub invariant-loop-timer : goal.invariant-loop-timer
 invariant-loop-timer l =
-    (machine : Machine) (path : List (List ℕ)) → IsIndexOf machine path l.index
+    (machine : Machine) (search_path : List (List ℕ)) → IsIndexOf machine search_path l.index
     → map shown_candidate l.found.items ≡ map shown_candidate l.fn.found.items
-    ++ flat_map (λ timer. missing_error timer (missing_unit machine path timer)) (take l.timer-index l.timers)
+    ++ flat_map (λ timer. missing_error timer (missing_unit machine search_path timer)) (take l.timer-index l.timers)
