@@ -10,16 +10,11 @@ use std::alloc::Global;
 use std::io::BufWriter;
 use std::test::Fail;
 
-/// Expects a file `f` with these bytes to be reported with the error line `told` and this status.
-fn check_bytes(
-    alloc: Global,
-    bytes: &[u8],
-    line: &str,
-    told: &str,
-    status: u8,
-) -> Result<(), Fail> {
+/// Runs the program with the arguments in `line` and a file `f` that has these bytes. Expects nothing on standard
+/// output, `err` on standard error, and this status.
+fn check_bytes(alloc: Global, bytes: &[u8], line: &str, err: &str, status: u8) -> Result<(), Fail> {
     let items = [("f", Item::File(bytes))];
-    check(alloc, MemorySystem::new(&items), (line, "", told, status))
+    check(alloc, MemorySystem::new(&items), (line, "", err, status))
 }
 
 const ZONE_UNREAD: &str = "calendar-analyze: --zones: A: cannot be read\n";
