@@ -17,15 +17,16 @@ scratch=$(mktemp -d) || exit 2
 trap 'rm -rf "$scratch"' EXIT
 trap 'exit 1' HUP INT TERM
 mkdir "$scratch/clone" "$scratch/root" || exit 2
-for file in install man completions packaging docs LICENSE README.md; do
+for file in install man completions packaging docs LICENSE README.md CONTRIBUTING.md; do
     cp -R -- "$here/$file" "$scratch/clone/" || exit 2
 done
 install=$scratch/clone/install
 # Every call below has a DESTDIR, so that nothing is installed outside.
 export DESTDIR="$scratch/root" PREFIX=/usr
 passed=0 failed=0
-# The programs, their manual pages, three completions each, eight pages and README, LICENSE, and the copyright file.
-count=21
+# The programs, their manual pages, three completions each, README, CONTRIBUTING and twelve more pages, LICENSE, and the
+# copyright file.
+count=26
 
 # Counts a step by the status of the command before it; the second argument says what went wrong.
 step() {
@@ -59,12 +60,23 @@ try_install() {
         cmp "$DESTDIR/usr/share/man/man1/$page" "$here/man/$page"
         step $? "the manual page $page is not installed"
     done
-    for page in README.md LICENSE docs/GRAMMAR.md docs/RECIPES.md; do
+    for page in README.md CONTRIBUTING.md LICENSE docs/GRAMMAR.md docs/PROVED.md; do
         cmp "$DESTDIR/usr/share/doc/calendar-analyze/$page" "$here/$page"
         step $? "$page is not installed"
     done
+    dead=$(dead_links "$DESTDIR/usr/share/doc/calendar-analyze")
+    [ -z "$dead" ]
+    step $? "links of installed pages lead to files that are not installed: $dead"
     "$install" > /dev/null && [ "$(files | wc -l)" -eq $count ]
     step $? 'it does not install over an earlier installation'
+}
+
+# Prints the links of the pages below a folder that lead to no file.
+dead_links() {
+    (cd -- "$1" && grep -Ero --include='*.md' '\]\([^)#:]+[)#]' .) | while IFS= read -r link; do
+        page=${link%%:*} target=${link#*](}
+        [ -e "$1/$(dirname -- "$page")/${target%[)#]}" ] || printf '%s\n' "$link"
+    done
 }
 
 try_remove() {

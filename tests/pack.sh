@@ -42,12 +42,13 @@ bin/calendar-analyze
 bin/calendar-timers
 share/bash-completion/completions/calendar-analyze
 share/bash-completion/completions/calendar-timers
+share/doc/calendar-analyze/CONTRIBUTING.md
 share/doc/calendar-analyze/LICENSE
 share/doc/calendar-analyze/README.md
 share/doc/calendar-analyze/changelog.gz
 share/doc/calendar-analyze/copyright
 END
-    for page in DIFFERENCES GLOSSARY GRAMMAR RECIPES SPEED TIMERS TIMESPANS TIMESTAMPS; do
+    for page in DECISIONS DIFFERENCES GLOSSARY GRAMMAR HEADLINE MAP PROVED RECIPES SPEED TIMERS TIMESPANS TIMESTAMPS; do
         echo "share/doc/calendar-analyze/docs/$page.md"
     done
     cat << END
@@ -84,7 +85,7 @@ try_files() {
 try_twice() {
     for copy in one two; do
         mkdir "$scratch/$copy" || exit 2
-        for file in pack install man completions packaging docs LICENSE README.md CHANGELOG.md; do
+        for file in pack install man completions packaging docs LICENSE README.md CONTRIBUTING.md CHANGELOG.md; do
             cp -R -- "$here/$file" "$scratch/$copy/" || exit 2
         done
     done
