@@ -18,6 +18,7 @@ use Rattle.cal_answers.specs.rules.LintCrontabs.{with_problem, with_problems}
 use Rattle.cal_answers.specs.rules.LintLaw.{AreDistinct, HasError, HasWarning, IsFailure}
 use Rattle.cal_answers.specs.rules.LintOutput.{IsLint, all_problems, has_lines}
 use Rattle.cal_answers.specs.rules.LintRows.{Listed, is_error_at, is_problem_at, lint_counts}
+use Rattle.cal_answers.proofs.LintLemmas.{one_or_other}
 
 -- ## The status
 
@@ -83,17 +84,13 @@ fails_if context is_strict machine search_path files loaded crontabs out err sta
     subst (λ (n : ℕ). IsOne n ↔ IsFailure is_strict (has_lines err) listed) (sym is.ends)
     (status_if (has_lines err) (nat_lt 0 (lint_counts listed).errors) is_strict (nat_lt 0 (lint_counts listed).warnings) (HasError listed) (HasWarning listed) (errors_if listed) (warnings_if listed))
 
-either_one : (b : Bool) → cond b 1 0 + cond (not b) 1 0 ≡ 1
-either_one true = refl
-either_one false = refl
-
 -- each problem is an error or a warning, and not both
 pub all_counted : (listed : List Listed) → (lint_counts listed).errors + (lint_counts listed).warnings ≡ length listed
 all_counted [] = refl
 all_counted (problem ∷ others) =
     let errors = count-cons (λ p. p.row.is_error) problem others in
     let warnings = count-cons (λ p. not p.row.is_error) problem others in
-    let one = either_one problem.row.is_error in
+    let one = one_or_other problem.row.is_error in
     let rest : (lint_counts others).errors + (lint_counts others).warnings ≡ length others = all_counted others in
     omega arith
 

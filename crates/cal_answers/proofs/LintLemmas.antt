@@ -1,8 +1,9 @@
 -- Lemmas on the rows of `lint` and on the folders of the search path.
-use Rattle.std.proofs.Common.{◌≡◌, ◌∙◌, ℕ, ◌+◌, ◌-◌, ◌||◌, Bool, false, true, List, [], ◌∷◌, None, Some, ap, arith, cond, count_by, length, map, not, refl, string_bytes, sym}
+use Rattle.std.proofs.Common.{◌≡◌, ◌∙◌, ℕ, ◌+◌, ◌-◌, Bool, false, true, List, [], ◌∷◌, None, Some, ap, arith, cond, count_by, length, map, not, refl, string_bytes, sym}
 use Rattle.std.proofs.lemmas.List.Sums.{sum_by-cons}
 use Rattle.std.specs.List.{list_any}
 use Rattle.std.specs.Prelude.{slice_get}
+use Rattle.cal_bytes.proofs.General.{list_any-map}
 use Rattle.cal_machine.specs.rules.Machine.{Machine}
 use Rattle.cal_unit_index.specs.declared.files.UnitText.{UnitText}
 use Rattle.cal_unit_index.specs.declared.index.UnitIndex.{UnitIndex}
@@ -13,13 +14,9 @@ use Rattle.cal_answers.specs.rules.LintUnits.{is_directly_in, is_in_folders}
 
 -- ## Tests of rows
 
-pub list_any-map : {X Y : Type 0} (test : Y → Bool) (view : X → Y) (xs : List X) → list_any test (map view xs) ≡ list_any (λ x. test (view x)) xs
-list_any-map test view [] = refl
-list_any-map test view (x ∷ xs) = ap (λ other. test (view x) || other) (list_any-map test view xs)
-
 -- ## Counts
 
-one_or_other : (passes : Bool) → cond passes 1 0 + cond (not passes) 1 0 ≡ 1
+pub one_or_other : (passes : Bool) → cond passes 1 0 + cond (not passes) 1 0 ≡ 1
 one_or_other true = refl
 one_or_other false = refl
 

@@ -1,6 +1,6 @@
 -- General lemmas on definitions of the standard library, and on a few helpers that this file defines. All crates share
 -- them; a lemma that only one proof needs stays next to that proof.
-use Rattle.std.proofs.Common.{Bool, List, None, Option, Some, [], ap, arith, cond, drop, false, int_lt, length, nat_le, refl, slice_get, suc, sym, true, zero, ℕ, ℤ, ◌++◌, ◌+ℤ◌, ◌<ℤ◌, ◌<◌, ◌∙◌, ◌∷◌, ◌≡◌, ◌≤ℤ◌, add-one, drop-cons, get_or, leb, map, max, nat_eq, nat_lt, negsuc, not, of_z, pos, reverse, subst, take, to_z, unsigned_abs, w64, ◌&&◌, ◌+◌, ◌-◌, ◌==◌, ◌^◌, ◌≤◌}
+use Rattle.std.proofs.Common.{Bool, List, None, Option, Some, [], ap, arith, cond, drop, false, int_lt, length, nat_le, refl, slice_get, suc, sym, true, zero, ℕ, ℤ, ◌++◌, ◌+ℤ◌, ◌<ℤ◌, ◌<◌, ◌∙◌, ◌∷◌, ◌≡◌, ◌≤ℤ◌, add-one, drop-cons, get_or, leb, map, max, nat_eq, nat_lt, negsuc, not, of_z, pos, reverse, subst, take, to_z, unsigned_abs, w64, ◌&&◌, ◌||◌, ◌+◌, ◌-◌, ◌==◌, ◌^◌, ◌≤◌}
 use Rattle.std.proofs.lemmas.Bool.{and_from, and_parts, leb-true, ltb-false, ltb-true, not-true}
 use Rattle.std.proofs.lemmas.Int.{ints, to_z_pos}
 use Rattle.std.proofs.lemmas.List.{length-append, drop-append-le, drop_all, get_or-reverse, reverse-append}
@@ -123,6 +123,10 @@ pub option_or_none : {A : Type 0} (o p : Option A) → option_or o p ≡ None �
 option_or_none None p at = (refl, at)
 option_or_none (Some e) p at = cc
 
+pub option_or-none : {A : Type 0} (o : Option A) → option_or o None ≡ o
+option_or-none None = refl
+option_or-none (Some x) = refl
+
 -- ## Lists
 
 pub some_front : (xs ys : List ℕ) → 0 < length xs → 0 < length (xs ++ ys)
@@ -130,6 +134,25 @@ some_front xs ys h = omega (arith, length-append xs ys)
 
 pub list_all-both : (q : ℕ → Bool) (xs ys : List ℕ) → list_all q xs ≡ true → list_all q ys ≡ true → list_all q (xs ++ ys) ≡ true
 list_all-both q xs ys h k = list_all-append q xs ys ∙ and_from (list_all q xs) (list_all q ys) h k
+
+pub list_any-map : {A B : Type 0} (p : B → Bool) (f : A → B) (xs : List A) → list_any p (map f xs) ≡ list_any (λ x. p (f x)) xs
+list_any-map p f [] = refl
+list_any-map p f (x ∷ xs) = ap (λ others. p (f x) || others) (list_any-map p f xs)
+
+-- a list has an item that passes a test exactly if `position_or_len` finds one
+pub list_any-position : (p : ℕ → Bool) (xs : List ℕ) → position_or_len p xs < length xs → list_any p xs ≡ true
+list_any-position p [] within = absurd (omega arith)
+list_any-position p (x ∷ xs) within = grind (arith, list_any-position p xs)
+
+pub list_any-no_position : (p : ℕ → Bool) (xs : List ℕ) → length xs ≤ position_or_len p xs → list_any p xs ≡ false
+list_any-no_position p [] past = refl
+list_any-no_position p (x ∷ xs) past = grind (arith, list_any-no_position p xs)
+
+pub slice_get-take : (n : ℕ) (xs : List ℤ) (k : ℕ) (x : ℤ) → slice_get (take n xs) k ≡ Some x → slice_get xs k ≡ Some x
+slice_get-take zero xs k x h = absurd (cc)
+slice_get-take (suc n) [] k x h = absurd (cc)
+slice_get-take (suc n) (y ∷ ys) zero x h = h
+slice_get-take (suc n) (y ∷ ys) (suc k) x h = slice_get-take n ys k x h
 
 -- if the first item of a list is `x`, the list is `x` followed by the remaining items
 pub list-first : (xs : List ℤ) (x : ℤ) → slice_get xs 0 ≡ Some x → xs ≡ x ∷ drop 1 xs

@@ -2,8 +2,9 @@
 use Rattle.std.proofs.Common.{◌≡◌, ℕ, Bool, true, false, List, [], ◌∷◌, ◌++◌, reverse, refl, sym, subst, ap, ◌∙◌, append-nil, arith, drop, length, length-drop, take, ◌-◌, ◌≤◌}
 use Rattle.std.specs.List.{AllByRecursion, suffix_len}
 use Rattle.std.proofs.Math.Numerals.{one-add}
-use Rattle.std.proofs.lemmas.List.{reverse-append, reverse-reverse, length-reverse, take-append-drop}
+use Rattle.std.proofs.lemmas.List.{reverse-append, reverse-reverse, length-reverse, length-take, take-append-drop}
 use Rattle.std.proofs.lemmas.List.Sums.{suffix_len-le-length}
+use Rattle.cal_bytes.specs.rules.Separators.{is_blank}
 use Rattle.cal_bytes.specs.rules.TrimRule.{StartsSolid, IsTrimmed, IsUnindented}
 use Rattle.cal_bytes.specs.rules.Trim.{trim_matches, trim_end_matches, trim_start_matches}
 use Rattle.cal_bytes.proofs.General.{all_append, all_reverse}
@@ -84,3 +85,8 @@ trim_of p front (x ∷ xs) back before after solid_start solid_end =
 
 pub trim_only : (p : ℕ → Bool) (text trimmed : List ℕ) → IsTrimmed p text trimmed → trimmed ≡ trim_matches p text
 trim_only p text said h = sym (ap (trim_matches p) h.whole ∙ trim_of p h.front said h.back h.blanks h.blanks_after h.solid_start h.solid_end)
+
+-- a text without its trailing blanks isn't longer than the text
+pub trimmed_is_shorter : (text : List ℕ) → length (trim_end_matches is_blank text) ≤ length text
+unfolding trim_end_matches
+trimmed_is_shorter text = omega (arith, length-take (length text - suffix_len is_blank text) text)

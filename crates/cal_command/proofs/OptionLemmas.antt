@@ -1,35 +1,28 @@
 -- Lemmas about the parsing of the items of `--zones`.
-use Rattle.std.proofs.Common.{◌≡◌, ◌≢◌, ℕ, ◌<◌, ◌≤◌, List, [], ◌∷◌, length, Option, None, Some, true, false, ◌==◌, refl, ap, ap₂, sym, ◌∙◌, ◌+◌, lit<, Bor, ◌++◌, map, append-nil, append_assoc, arith, option_map, Bool}
+use Rattle.std.proofs.Common.{◌≡◌, ◌≢◌, ℕ, ◌<◌, ◌≤◌, List, [], ◌∷◌, length, Option, None, Some, ◌==◌, refl, ap, ap₂, sym, ◌∙◌, ◌+◌, lit<, Bor, ◌++◌, map, append-nil, append_assoc, arith, option_map}
 use Rattle.std.specs.Prelude.{not}
-use Rattle.std.specs.List.{slice_split, list_any, position_or_len}
+use Rattle.std.specs.List.{slice_split}
 use Rattle.std.proofs.lemmas.List.Splits.{slice_split_first, slice_split_none}
 use Rattle.std.proofs.lemmas.List.Sums.{prefix_len_passes}
 use Rattle.std.proofs.lemmas.Str.Pattern.{IsSplitOnceResult, split_once_first}
 use Rattle.std.proofs.lemmas.Bool.{not-true, le-leb}
 use Rattle.std.proofs.lemmas.Bool.Decides.{nat_tests}
+use Rattle.cal_bytes.proofs.General.{list_any-position, list_any-no_position}
 use Rattle.cal_bytes.specs.rules.Separators.{is_comma}
 use Rattle.cal_command.specs.rules.OptionValues.{parts_at, zone_item_in, zone_items_in, zones_in}
 use Rattle.cal_command.specs.rules.Ask.{ZoneItem, shown_item}
 use Rattle.cal_command.specs.declared.ask.ZoneItem as declared_item
 use Rattle.std.proofs.lemmas.List.{map-append}
 
-any_below : (p : ℕ → Bool) (xs : List ℕ) → position_or_len p xs < length xs → list_any p xs ≡ true
-any_below p [] within = absurd (omega arith)
-any_below p (x ∷ xs) within = grind (arith, any_below p xs)
-
-none_above : (p : ℕ → Bool) (xs : List ℕ) → length xs ≤ position_or_len p xs → list_any p xs ≡ false
-none_above p [] past = refl
-none_above p (x ∷ xs) past = grind (arith, none_above p xs)
-
 -- if `c` is ASCII, then `split_once` at `c` returns the same parts of the text as `parts_at`
 pub parts_at-split : (c : ℕ) (text : List ℕ) (r : Option (Bor (List ℕ) × Bor (List ℕ))) → IsSplitOnceResult c text r → c < 128
     → option_map (λ parts. (parts.0.now, parts.1.now)) r ≡ parts_at (λ byte. byte == c) text
 parts_at-split c text None h small =
     let cut = split_once_first c text None h small in
-    rw (none_above (λ byte. byte == c) text (omega (arith, cut))) refl
+    rw (list_any-no_position (λ byte. byte == c) text (omega (arith, cut))) refl
 parts_at-split c text (Some x) h small =
     let cut = split_once_first c text (Some x) h small in
-    rw (any_below (λ byte. byte == c) text cut.0, cut.1, cut.2) refl
+    rw (list_any-position (λ byte. byte == c) text cut.0, cut.1, cut.2) refl
 
 -- if a text has a comma, then its first item is the part before the first comma, and its other items are the items of
 -- the part after this comma

@@ -7,6 +7,5 @@ pub mod NormalLemmas
 pub mod PartLemmas
 pub mod RangeLemmas
 pub mod ScheduleLemmas
-pub mod TrimLemmas
 pub mod ValueRule
 pub mod WeekdayLemmas

@@ -11,6 +11,7 @@ use Rattle.std.proofs.lemmas.Bool.Decides.{nat_tests}
 use Rattle.std.proofs.lemmas.List.Folds.{list_all-map}
 use Rattle.std.proofs.lemmas.Slice.Eq.{bytes_eq-Decides}
 use Rattle.cal_bytes.proofs.General.{list_all-wider}
+use Rattle.cal_spec.proofs.WeekdayRule.{letter_by}
 use Rattle.cal_cron.specs.computed.Items.{is_number, number_within, step_in, step_within, value_in}
 use Rattle.cal_cron.specs.rules.CronGrammar.{IsNumber, IsValue, IsWithin, greatest, least, max_step, month_names, name_from, name_in, weekday_names}
 use Rattle.cal_cron.specs.declared.cron_field.CronField.{CronField}
@@ -26,9 +27,6 @@ cond_ok false e r y at = (refl, at)
 
 abbrev IsLetters : List ℕ → Type 0
 IsLetters name = list_all is_ascii_lowercase (map to_ascii_lowercase name) ≡ true
-
-letter_by : (b : ℕ) → is_ascii_lowercase (to_ascii_lowercase b) ≡ true → is_ascii_alphabetic b ≡ true
-letter_by b test = grind (arith, nat_tests)
 
 letters_by : (text name : List ℕ) → IsLetters name → str_eq_ignore_ascii_case text name ≡ true → list_all is_ascii_alphabetic text ≡ true
 letters_by text name letters test =

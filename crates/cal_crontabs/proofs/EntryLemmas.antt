@@ -1,20 +1,14 @@
--- Lemmas on the entries in a list of lines, on sets of names, and on texts that contain another text.
-use Rattle.std.proofs.Common.{◌≡◌, ◌∙◌, ◌||◌, ℕ, Bool, true, false, List, [], ◌∷◌, ◌++◌, Option, None, ap, append-nil, append_assoc, drop, filter, length, map, nat_eq, refl, sym}
+-- Lemmas on the entries in a list of lines, and on texts that contain another text.
+use Rattle.std.proofs.Common.{◌≡◌, ◌∙◌, ◌||◌, ℕ, Bool, true, false, List, [], ◌∷◌, ◌++◌, Option, None, ap, append-nil, append_assoc, drop, length, map, nat_eq, refl, sym}
 use Rattle.std.proofs.lemmas.Bool.Decides.{Decides-eqb}
 use Rattle.std.proofs.lemmas.List.{flat_map_more, map-append}
-use Rattle.std.proofs.lemmas.List.Elements.{filter-append}
-use Rattle.std.proofs.lemmas.List.Sums.{fold-append}
 use Rattle.std.proofs.lemmas.Slice.Eq.{starts_is}
 use Rattle.std.proofs.lemmas.Str.Pattern.{contains_text}
-use Rattle.std.specs.BTreeSet.{insert_key}
 use Rattle.std.specs.Bool.{MatchBool}
-use Rattle.std.specs.Cmp.Lexicographic.{slice_cmp}
 use Rattle.std.specs.List.{flat_map, starts_with}
-use Rattle.std.specs.Ordering.{nat_cmp}
 use Rattle.std.specs.Str.Iter.{HasSubslice}
 use Rattle.std.specs.Str.Pattern.{FindsText, HasMatch}
 use Rattle.cal_cron.specs.rules.CrontabLines.{Line}
-use Rattle.cal_unit_index.specs.rules.Destinations.{sorted_once, with_texts}
 use Rattle.cal_crontabs.specs.rules.Crontabs.{Crontab}
 use Rattle.cal_crontabs.specs.rules.Entries.{EntryView, entries_at, entries_below, has_text, zone_after}
 
@@ -64,18 +58,6 @@ pub zone_added : {X : Type 0} (view : X → Line) (xs : List X) (x : X) (cron_tz
 zone_added view xs x cron_tz below was after =
     after ∙ ap (λ z. zone_after z (view x).content) was
     ∙ sym (zone_more None (map view xs) (view x)) ∙ ap (zone_below None) (sym (map-append view xs (x ∷ [])))
-
--- ## Names
-
--- if a name is added to a sorted set if it passes a test, the set has the names that pass the test
-pub passing_pushed : {X : Type 0} (test : List ℕ → Bool) (view : X → List ℕ) (before after : List (List ℕ)) (xs : List X) (x : X)
-    → after ≡ with_texts before (filter test (view x ∷ [])) → before ≡ sorted_once (filter test (map view xs))
-    → after ≡ sorted_once (filter test (map view (xs ++ x ∷ [])))
-passing_pushed test view before after xs x added held =
-    added
-    ∙ ap (λ names. with_texts names (filter test (view x ∷ []))) held
-    ∙ sym (fold-append (insert_key (slice_cmp nat_cmp)) [] (filter test (map view xs)) (filter test (view x ∷ [])))
-    ∙ ap sorted_once (sym (filter-append test (map view xs) (view x ∷ [])) ∙ ap (filter test) (sym (map-append view xs (x ∷ []))))
 
 -- ## A text in a text
 

@@ -1,4 +1,3 @@
-mod CrontabFileLemmas
 mod DocumentLemmas
 mod EntryLemmas
 mod FindingLemmas

@@ -14,7 +14,7 @@ use Rattle.cal_rising.specs.computed.Rises.{rises-without}
 use Rattle.cal_rising.specs.rules.RisingList.{HasAny, union, without}
 use Rattle.cal_rising.specs.rules.Elements.{Has}
 use Rattle.cal_bytes.proofs.General.{int_lt_trans, rises-drop}
-use Rattle.cal_rising.proofs.RisingLemmas.{above_first, later_members, same_rising, Has-union, rises-union}
+use Rattle.cal_rising.proofs.RisingLemmas.{above_first, later_members, same_rising, Has-union, rises-union, Has-slice_get}
 use Rattle.cal_rising.proofs.WithoutLemmas.{Has-without, without-none}
 
 -- `i` is the instant of a matching local second among the `n` local seconds from `a` on
@@ -141,11 +141,6 @@ pub elapses_except-none : (es : List Timed) (b : ℤ) → elapses_except es [] b
 unfolding elapses_except elapses_after union
 elapses_except-none es b = without-none (elapses_after es b)
 
-has_at : (xs : List ℤ) (k : ℕ) (e : ℤ) → slice_get xs k ≡ Some e → Has xs e
-has_at [] k e h = absurd (cc)
-has_at (x ∷ xs) zero e h = inl (cc)
-has_at (x ∷ xs) (suc k) e h = inr (has_at xs k e h)
-
 -- in a strictly increasing list, the elements after index `k` are exactly those greater than the element at index `k`
 Has-drop : (xs : List ℤ) (k : ℕ) (e : ℤ) → IsStrictlySortedBy int_cmp xs → slice_get xs k ≡ Some e → (i : ℤ) → Has (drop (suc k) xs) i ↔ ((e <ℤ i) × Has xs i)
 Has-drop [] k e h at i = absurd (cc)
@@ -154,7 +149,7 @@ Has-drop (x ∷ xs) zero e h at i =
     subst (λ (z : ℤ). Has xs i ↔ ((z <ℤ i) × Has (x ∷ xs) i)) same (later_members x xs h i)
 Has-drop (x ∷ xs) (suc k) e h at i =
     let rest = Has-drop xs k e (sorted_tail int_cmp x xs h) at i in
-    let up = above_first x e xs h (has_at xs k e at) in (
+    let up = above_first x e xs h (Has-slice_get xs k e at) in (
       λ m. ((rest.0 m).0, inr (rest.0 m).1),
       λ p. elim p.1 [ inl f ↦ absurd (not_both x e i up p.0 f) | inr n ↦ rest.1 (p.0, n) ],
     )
@@ -163,7 +158,7 @@ Has-drop (x ∷ xs) (suc k) e h at i =
 -- satisfy it. If `e` has the index `k` in `xs`, then `ys` is what follows `e` in `xs`.
 later_above : {Holds : ℤ → Type 0} (b e : ℤ) (xs ys : List ℤ) (k : ℕ) → AreAbove Holds b xs → AreAbove Holds e ys → slice_get xs k ≡ Some e → ys ≡ drop (suc k) xs
 later_above b e xs ys k all again at =
-    let up = ((all.members e).0 (has_at xs k e at)).0 in
+    let up = ((all.members e).0 (Has-slice_get xs k e at)).0 in
     let after = Has-drop xs k e all.rises at in
     same_above e ys (drop (suc k) xs) again (record {
       rises = rises-drop xs (suc k) all.rises;

@@ -181,10 +181,6 @@ only_word text none =
       | inr past ↦ omega (arith, length-drop (length text - suffix_len is_solid text) text)
     ]
 
-pub trimmed_length : (text : List ℕ) → length (trim_end_matches is_blank text) ≤ length text
-unfolding trim_end_matches
-trimmed_length text = omega (arith, length-take (length text - suffix_len is_blank text) text)
-
 -- ## The lengths of physical lines
 
 part_of_split : (b : Bool) (x : ℕ) (parts : List (List ℕ)) (len : ℕ) → ((m : ℕ) → length (unwrap_or (slice_get parts m) []) ≤ len)

@@ -1,7 +1,7 @@
 -- Lemmas on the text that is read in place of a file: its logical lines give the same results as those of the file.
-use Rattle.std.proofs.Common.{◌≡◌, ◌≤◌, ◌<◌, ◌+◌, ◌-◌, ◌==◌, ℕ, suc, zero, Bool, true, false, List, [], ◌∷◌, ◌++◌, Option, Some, None, All, append-nil, append_assoc, ap, arith, codes, drop, get_or, length, length-append, map, not, nat_le, nat_lt, refl, reverse, subst, sym, take, ◌∙◌}
+use Rattle.std.proofs.Common.{◌≡◌, ◌≤◌, ◌<◌, ◌+◌, ◌-◌, ◌==◌, ℕ, suc, zero, Bool, true, false, List, [], ◌∷◌, ◌++◌, Option, Some, None, All, append-nil, append_assoc, ap, arith, codes, drop, get_or, length, length-append, map, not, nat_le, nat_lt, refl, subst, sym, take, ◌∙◌}
 use Rattle.std.specs.Prelude.{if◌then◌else◌, slice_index}
-use Rattle.std.specs.List.{AllByRecursion, after_first, before_first, list_any, position_or_len, prefix_len, slice_split, suffix_len}
+use Rattle.std.specs.List.{AllByRecursion, after_first, before_first, list_any, position_or_len, prefix_len, slice_split}
 use Rattle.std.specs.Option.{is_some}
 use Rattle.std.specs.Str.{IsUtf8, chars, is_utf8}
 use Rattle.std.specs.Str.Lines.{lines, lines_of_parts, strip_carriage_return}
@@ -9,15 +9,15 @@ use Rattle.std.proofs.Math.Numerals.{one-add}
 use Rattle.std.proofs.Math.Seq.{drop-append_seam, get_or-append_seam, split_at, take-append_seam}
 use Rattle.std.proofs.lemmas.Bool.{eqb-true, false_from_ne_true}
 use Rattle.std.proofs.lemmas.Bool.Decides.{nat_tests}
-use Rattle.std.proofs.lemmas.List.{drop_all, get_or-reverse, get_or-take, length-take-le, map-append, take_all, take-append-drop}
+use Rattle.std.proofs.lemmas.List.{drop_all, get_or-take, length-take-le, map-append, take_all, take-append-drop}
 use Rattle.std.proofs.lemmas.List.Elements.{All-from_get_or}
 use Rattle.std.proofs.lemmas.List.Splits.{length-slice_split, slice_split_at, slice_split_none}
-use Rattle.std.proofs.lemmas.List.Sums.{fails_before_first, prefix_len_passes, prefix_len_stops, split_at_first, suffix_len-le-length}
+use Rattle.std.proofs.lemmas.List.Sums.{fails_before_first, prefix_len_stops, split_at_first}
 use Rattle.std.proofs.lemmas.Str.{IsCharBoundary-after_ascii, IsCharBoundary-before_ascii, IsUtf8-append, IsUtf8-drop, IsUtf8-from_ascii, IsUtf8-from_is_utf8, IsUtf8-nil, IsUtf8-take, is_utf8-from_IsUtf8}
 use Rattle.cal_bytes.proofs.TrimLemmas.{trim_is, unindented}
 use Rattle.cal_bytes.specs.rules.Trim.{trim_matches, trim_start_matches}
 use Rattle.cal_timer.proofs.GroupLemmas.{plain_here, plain_none, plain_skipped}
-use Rattle.cal_timer.proofs.LineLemmas.{blank_is_ascii}
+use Rattle.cal_timer.proofs.LineLemmas.{blank_is_ascii, ends_in_backslash, lines_of_more, some_line}
 use Rattle.cal_timer.specs.rules.Lines.{Group, Line, continued_by, groups, is_blank_or_return, is_comment, is_continued, joined_line, logical_lines, part_of_line, plain_lines}
 use Rattle.cal_read.proofs.SectionAssignmentsLemmas.{assignments_of_timer}
 use Rattle.cal_load.specs.declared.readable.BrokenReason.{BrokenReason}
@@ -76,19 +76,6 @@ not_both : (b : Bool) → b ≡ true → b ≡ false → ⊥
 not_both b h k = grind arith
 
 -- ## Logical lines
-
-ends_in_backslash : (text : List ℕ) → is_continued text ≡ true → text ≡ take (length text - 1) text ++ 92 ∷ []
-unfolding is_continued
-ends_in_backslash text e =
-    let at = length text - 1 in
-    let some : 0 < suffix_len (λ b. b == 92) text = grind (arith, nat_tests) in
-    let fits = suffix_len-le-length (λ b. b == 92) text in
-    let passes : (get_or (reverse text) 0 0 == 92) ≡ true = prefix_len_passes (λ b. b == 92) (reverse text) 0 0 some in
-    let there : get_or (reverse text) 0 0 ≡ get_or text at 0 = get_or-reverse text 0 0 (omega arith) ∙ ap (λ k. get_or text k 0) (omega arith) in
-    let byte : get_or text at 0 ≡ 92 = sym there ∙ eqb-true _ _ passes in
-    split_at text at 0 (omega arith)
-    ∙ ap (λ bs. take at text ++ get_or text at 0 ∷ bs) (drop_all (suc at) text (omega arith))
-    ∙ ap (λ b. take at text ++ b ∷ []) byte
 
 -- if what a continued line contributes to its logical line, followed by `rest`, is UTF-8, then so are the line and
 -- `rest`
@@ -302,19 +289,11 @@ reason_not_last is_cut line after e f = rw (e, f) refl
 abbrev is_feed : ℕ → Bool
 is_feed b = b == 10
 
-lines_of_more : (part : List ℕ) (parts : List (List ℕ)) → 0 < length parts → lines_of_parts (part ∷ parts) ≡ strip_carriage_return part ∷ lines_of_parts parts
-lines_of_more part [] h = absurd (omega arith)
-lines_of_more part (next ∷ parts) h = refl
-
 -- the first line ends at the first line feed
 lines_fed : (text rest : List ℕ) → All (λ b. is_feed b ≡ false) text → lines (text ++ 10 ∷ rest) ≡ strip_carriage_return text ∷ lines rest
 lines_fed text rest none =
     ap lines_of_parts (slice_split_at is_feed text 10 rest none refl)
     ∙ lines_of_more text (slice_split is_feed rest) (omega (arith, length-slice_split is_feed rest))
-
-some_line : (part : List ℕ) → 0 < length part → lines_of_parts (part ∷ []) ≡ part ∷ []
-some_line [] h = absurd (omega arith)
-some_line (b ∷ part) h = grind (arith, nat_tests)
 
 -- what a physical line ends with: nothing, a line feed, or a carriage return and a line feed
 pub data End : List ℕ → Type 0 where

@@ -1,8 +1,8 @@
 -- Lemmas on what targets stand for, and on the outcomes of loading them.
-use Rattle.std.proofs.Common.{◌≡◌, ◌+◌, ◌<◌, get_or, length, take, Bool, filter, ◌∙◌, append_assoc, ℕ, List, [], ◌∷◌, ◌++◌, Ok, Err, Option, Result, ap, append-nil, inl, inr, map, refl, string_bytes, subst, false, sym, true}
+use Rattle.std.proofs.Common.{◌≡◌, ◌+◌, ◌<◌, get_or, length, take, ◌∙◌, append_assoc, ℕ, List, [], ◌∷◌, ◌++◌, Ok, Err, Option, Result, ap, append-nil, inl, inr, map, refl, string_bytes, subst, false, sym, true}
 use Rattle.std.proofs.lemmas.List.{flat_map_more, map-append, take_more}
 use Rattle.std.proofs.lemmas.Grind.{flat_map-append}
-use Rattle.std.proofs.lemmas.List.Elements.{All-append, All-cons, All-nil, All-weaker, filter-append, filter_map-append, Contains-append_left, Contains-push}
+use Rattle.std.proofs.lemmas.List.Elements.{All-append, All-cons, All-nil, All-weaker, filter_map-append, Contains-append_left, Contains-push}
 use Rattle.std.proofs.lemmas.List.Sums.{fold-append}
 use Rattle.std.specs.BTreeSet.{insert_key}
 use Rattle.std.specs.Cmp.Lexicographic.{slice_cmp}
@@ -117,17 +117,6 @@ pub set_of_both : (f : List ℕ → Option (List ℕ)) (xs ys : List (List ℕ))
 set_of_both f xs ys =
     sym (fold-append (insert_key (slice_cmp nat_cmp)) [] (filter_map f xs) (filter_map f ys))
     ∙ ap sorted_once (sym (filter_map-append f xs ys))
-
--- if `before` is the set of the names in `xs` that pass a test, and `after` also has the name of `x` if it passes, then
--- `after` is the set for `xs` and `x`
-pub passing_pushed : {X : Type 0} (test : List ℕ → Bool) (view : X → List ℕ) (before after : List (List ℕ)) (xs : List X) (x : X)
-    → after ≡ with_texts before (filter test (view x ∷ [])) → before ≡ sorted_once (filter test (map view xs))
-    → after ≡ sorted_once (filter test (map view (xs ++ x ∷ [])))
-passing_pushed test view before after xs x added held =
-    added
-    ∙ ap (λ names. with_texts names (filter test (view x ∷ []))) held
-    ∙ sym (fold-append (insert_key (slice_cmp nat_cmp)) [] (filter test (map view xs)) (filter test (view x ∷ [])))
-    ∙ ap sorted_once (sym (filter-append test (map view xs) (view x ∷ [])) ∙ ap (filter test) (sym (map-append view xs (x ∷ []))))
 
 -- ## Several outcomes
 

@@ -2,10 +2,9 @@
 -- the last of these elapses.
 use Rattle.std.proofs.Common.{◌≡◌, ◌≤◌, ◌*◌, ◌/◌, ◌∙◌, inl, inr, ℕ, zero, suc, ℤ, pos, negsuc, List, [], ◌∷◌, Option, None, Some, Result, Ok, take, drop, length, length-take, refl, sym, ap, subst, arith, get_or}
 use Rattle.std.proofs.lemmas.Option.{slice_get-get_or}
-use Rattle.std.specs.List.{slice_get}
 use Rattle.jiff.proofs.SpanFacts.{signed_arith}
 use Rattle.cal_bytes.specs.declared.whole.WholeFault.{WholeFault}
-use Rattle.cal_rising.specs.rules.Elements.{Has}
+use Rattle.cal_rising.proofs.RisingLemmas.{Has-slice_get}
 use Rattle.cal_zone.specs.rules.Instant.{IsInstant}
 use Rattle.cal_stamp.proofs.StampCounted.{counted_back}
 use Rattle.cal_plan.specs.rules.Instants.{AreInstants}
@@ -17,11 +16,6 @@ use Rattle.cal_report.specs.rules.Headline.{Schedule, base_text, started_at}
 use Rattle.cal_report.proofs.BaseLemmas.{base_found}
 use Rattle.cal_report.proofs.HeadlineElapses.{elapses_are_instants}
 use Rattle.cal_request.specs.rules.Request.{Request}
-
-has_at : (xs : List ℤ) (k : ℕ) (x : ℤ) → slice_get xs k ≡ Some x → Has xs x
-has_at [] k x at = cc
-has_at (y ∷ ys) zero x at = inl (cc)
-has_at (y ∷ ys) (suc k) x at = inr (has_at ys k x at)
 
 -- `@` and the seconds of an instant, parsed as a base time, resolve to that instant
 counted_base : (asked : Request) (secs : ℤ) → IsInstant secs → base_from asked (Some (base_text secs)) ≡ Ok secs
@@ -57,7 +51,7 @@ is_sought asked base shown (suc before) sought instants few =
     let at = slice_get-get_or shown before (pos 0) (omega arith) in
     record {
       from = secs;
-      sought = same_base asked shown (suc before) (base_after asked.base shown (suc before)) ∙ rw at (counted_base asked secs (instants secs (has_at shown before secs at)));
+      sought = same_base asked shown (suc before) (base_after asked.base shown (suc before)) ∙ rw at (counted_base asked secs (instants secs (Has-slice_get shown before secs at)));
       after = at;
     }
 

@@ -1,13 +1,14 @@
 -- Lemmas for the law `cut_output_resumes`, about one report: how many elapses have a complete first line in a prefix of
 -- the report, and what a request that continues after these elapses shows. A law is the contract of a function that
 -- does nothing.
-use Rattle.std.proofs.Common.{◌≡◌, ◌↔◌, ◌≤◌, ◌<◌, ◌+◌, ◌++◌, ◌∙◌, ℕ, zero, suc, ℤ, Bool, true, false, List, [], ◌∷◌, Option, None, Some, Result, Ok, Err, map, take, drop, length, codes, nat_le, refl, sym, ap, subst, arith, append-nil, append_assoc, length-append, slice_get, length-take}
+use Rattle.std.proofs.Common.{◌≡◌, ◌↔◌, ◌≤◌, ◌<◌, ◌+◌, ◌++◌, ◌∙◌, ℕ, zero, suc, ℤ, Bool, true, false, List, [], ◌∷◌, Option, None, Some, Result, Ok, Err, map, take, drop, length, codes, nat_le, refl, sym, ap, subst, arith, append-nil, append_assoc, length-append}
 use Rattle.std.proofs.Math.Seq.{take-append_seam}
 use Rattle.std.proofs.lemmas.Bool.Decides.{nat_tests}
-use Rattle.std.proofs.lemmas.List.{drop-take, take-append-drop, take-append-le, get_or-take}
+use Rattle.std.proofs.lemmas.List.{drop-take, take-append-drop, take-append-le}
 use Rattle.std.specs.Io.KnownBytes.{Appends}
 use Rattle.std.specs.List.{AllByRecursion, AllZip, join_by}
 use Rattle.jiff.specs.Types.{TimeZone}
+use Rattle.cal_bytes.proofs.General.{slice_get-take}
 use Rattle.cal_bytes.specs.rules.Writes.{AppendsFront, Writes}
 use Rattle.cal_bytes.specs.declared.whole.WholeFault.{WholeFault}
 use Rattle.cal_zone.specs.rules.InstantText.{instant_text}
@@ -27,13 +28,6 @@ use Rattle.cal_request.specs.declared.request.Status.{Status}
 use Rattle.cal_request.specs.declared.verb.Verb.TheVariants.{Calendar, Timer}
 use Rattle.cal_report.proofs.HeadlineElapses.{goes_on}
 use Rattle.cal_report.proofs.HeadlineLemmas.{calendar_report_is, one_elapses, timer_report_is}
-use Rattle.std.proofs.lemmas.Option.{get_or_from_slice_get, slice_get_read, slice_get_within}
-
-slice_get-taken : (n : ℕ) (xs : List ℤ) (k : ℕ) (e : ℤ) → slice_get (take n xs) k ≡ Some e → slice_get xs k ≡ Some e
-slice_get-taken n xs k e at =
-    let within = slice_get_within (take n xs) k e at in
-    slice_get_read xs (length xs) k e refl (omega (arith, within, length-take n xs))
-    (sym (get_or_from_slice_get (take n xs) k e e at) ∙ get_or-take n xs k e (omega (arith, within, length-take n xs)))
 
 -- ## The first line of an elapse
 
@@ -286,7 +280,7 @@ one_stands asked s shown front k m h g =
 elapses_from : (ts exceptions : List Timed) (base from : ℤ) (n : ℕ) (xs : List ℤ) (k : ℕ) → AreElapses ts exceptions base xs → IsBaseAfter base (take n xs) k from
     → AreElapses ts exceptions from (drop k xs)
 elapses_from ts exceptions base from n xs zero h after = subst (λ (b : ℤ). AreElapses ts exceptions b xs) (sym after) h
-elapses_from ts exceptions base from n xs (suc k) h after = goes_on ts exceptions base from xs k h (slice_get-taken n xs k from after)
+elapses_from ts exceptions base from n xs (suc k) h after = goes_on ts exceptions base from xs k h (slice_get-take n xs k from after)
 
 pub zone_again : (asked again : Request) (suffix : Option ZoneSuffix) (tz : TimeZone) → again.local ≡ asked.local → again.zones ≡ asked.zones
     → IsZoneFor asked suffix tz → IsZoneFor again suffix tz

@@ -1,6 +1,6 @@
 -- Strictly increasing lists: the numbers after the first are greater than the first, and a union contains exactly the
 -- numbers of its lists.
-use Rattle.std.proofs.Common.{◌≡◌, ◌⊎◌, ◌↔◌, List, [], ◌∷◌, inl, inr, ℤ, ◌<ℤ◌, arith}
+use Rattle.std.proofs.Common.{◌≡◌, ◌⊎◌, ◌↔◌, ℕ, zero, suc, List, [], ◌∷◌, Some, inl, inr, ℤ, ◌<ℤ◌, ap, arith, map, refl, slice_get}
 use Rattle.std.proofs.lemmas.Cmp.{int_cmp_total}
 use Rattle.std.proofs.lemmas.Int.{ints}
 use Rattle.std.proofs.lemmas.Map.Keys.{sorted_head}
@@ -52,3 +52,20 @@ IsUnion-union xss = record { rises = rises-union xss; members = Has-union xss }
 pub IsUnion-only : (xss : List (List ℤ)) (xs : List ℤ) → IsUnion xss xs → xs ≡ union xss
 IsUnion-only xss xs h =
     same_rising xs (union xss) h.rises (rises-union xss) (λ i. grind (arith, Has-union xss i, h.members i))
+
+-- ## The items of any list
+
+pub Has-slice_get : (xs : List ℤ) (k : ℕ) (x : ℤ) → slice_get xs k ≡ Some x → Has xs x
+Has-slice_get [] k x h = absurd (cc)
+Has-slice_get (y ∷ ys) zero x h = inl (cc)
+Has-slice_get (y ∷ ys) (suc k) x h = inr (Has-slice_get ys k x h)
+
+pub Has-map : {A B : Type 0} (f : A → B) (xs : List A) (x : A) → Has xs x → Has (map f xs) (f x)
+Has-map f [] x h = absurd h
+Has-map f (y ∷ ys) x (inl same) = inl (ap f same)
+Has-map f (y ∷ ys) x (inr later) = inr (Has-map f ys x later)
+
+pub Has-mapped : {A B : Type 0} (f : A → B) (xs : List A) (y : B) → Has (map f xs) y → (x : A) × Has xs x × (f x ≡ y)
+Has-mapped f [] y h = absurd h
+Has-mapped f (x ∷ xs) y (inl same) = (x, inl refl, same)
+Has-mapped f (x ∷ xs) y (inr later) = let w = Has-mapped f xs y later in (w.0, inr w.1, w.2)

@@ -6,6 +6,7 @@ use Rattle.std.proofs.lemmas.Bool.{eqb-true, le-leb, or_cases, or_left, or_right
 use Rattle.std.proofs.lemmas.Bool.Decides.{nat_tests}
 use Rattle.jiff_core.specs.declared.civil.date.Date.{Date}
 use Rattle.jiff_core.proofs.CalendarLemmas.{days_in_month_bounds}
+use Rattle.cal_bytes.proofs.General.{list_any-map}
 use Rattle.cal_civil.specs.rules.LocalSecond.{civil_date}
 use Rattle.cal_spec.specs.rules.Fields.{Fields}
 use Rattle.cal_spec.specs.rules.Match.{date_in, day_value, matches, time_in}
@@ -26,10 +27,6 @@ use Rattle.cal_spec.proofs.NormalLemmas.{part_eq_exact, part_exact, parts_from_s
 use Rattle.cal_spec.proofs.OrderLemmas.{has_in_order}
 use Rattle.std.specs.Cmp.{both_ways}
 use Rattle.cal_spec.proofs.ReducedLemmas.{last_between, last_of, last_reached}
-
-list_any-map : {A B : Type 0} (f : B → Bool) (g : A → B) (xs : List A) → list_any f (map g xs) ≡ list_any (λ x. f (g x)) xs
-list_any-map f g [] = refl
-list_any-map f g (x ∷ xs) = ap (λ b. f (g x) || b) (list_any-map f g xs)
 
 list_any-same : {A : Type 0} (f g : A → Bool) (P : A → Type 0) (xs : List A) → AllByRecursion P xs → ((x : A) → P x → f x ≡ g x) → list_any f xs ≡ list_any g xs
 list_any-same f g P [] all same = refl

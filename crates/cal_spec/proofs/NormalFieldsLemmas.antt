@@ -1,6 +1,6 @@
 -- Valid fields have exactly one normal form. This normal form is valid, and bringing it into normal form again changes
 -- nothing.
-use Rattle.std.proofs.Common.{◌≡◌, ◌↔◌, ◌+◌, ◌<◌, ◌≤◌, cond, Bool, true, false, List, [], ◌∷◌, length, map, Option, None, Some, refl, sym, ap, ◌∙◌, subst, inl, inr, arith}
+use Rattle.std.proofs.Common.{◌≡◌, ◌↔◌, ◌+◌, ◌<◌, ◌≤◌, cond, Bool, true, false, List, [], ◌∷◌, length, map, Option, None, Some, refl, sym, ap, ◌∙◌, subst, arith}
 use Rattle.std.specs.List.{AllByRecursion}
 use Rattle.std.specs.List.Sorted.{IsStrictlySortedBy}
 use Rattle.std.proofs.lemmas.List.{length-map}
@@ -9,6 +9,7 @@ use Rattle.std.specs.declared.cmp.Ordering.TheVariants.{Less}
 use Rattle.std.specs.BTreeSet.{insert_key}
 use Rattle.std.specs.Ordering.{match_ordering}
 use Rattle.cal_rising.proofs.OrderLemmas.{all_at, all_from, same_sorted}
+use Rattle.cal_rising.proofs.RisingLemmas.{Has-map, Has-mapped}
 use Rattle.cal_spec.specs.rules.Fields.{Fields, counted_parts, parts_in}
 use Rattle.cal_spec.specs.computed.NormalParts.{AreNormal, AreParts, IsNormal, IsPart, normal_component, normal_fields, normal_parts, normal_second, part_eq, reduced, starred, in_order}
 use Rattle.cal_spec.specs.rules.NormalForm.{AreNormalOf, IsNormalFieldsOf, IsNormalOf, IsNormalSecondOf, IsReduced, IsStarred, each, normal_from_end, part_cmp}
@@ -23,17 +24,6 @@ use Rattle.cal_spec.proofs.NormalLemmas.{part_eq_exact, part_exact, part_total, 
 use Rattle.cal_spec.proofs.OrderLemmas.{has_in_order, sorted_in_order}
 use Rattle.cal_spec.proofs.ReducedLemmas.{normal_stays, reduced_is, reduced_normal, reduced_only, reduced_sound}
 
-has_map : {A B : Type 0} (g : A → B) (xs : List A) (x : A) → Has xs x → Has (map g xs) (g x)
-has_map g [] x h = absurd h
-has_map g (y ∷ ys) x h = elim h [ inl same ↦ inl (ap g same) | inr k ↦ inr (has_map g ys x k) ]
-
-map_has : {A B : Type 0} (g : A → B) (xs : List A) (z : B) → Has (map g xs) z → (x : A) × Has xs x × (g x ≡ z)
-map_has g [] z h = absurd h
-map_has g (y ∷ ys) z h = elim h [
-  | inl same ↦ (y, inl refl, same)
-  | inr k ↦ (let found = map_has g ys z k in (found.0, inr found.1, found.2))
-]
-
 -- a part is in the normal form of a list if and only if it is the normal form of a part of the list
 pub has_normal : (ps : List Part) (z : Part) → Has (normal_parts ps) z ↔ Has (map reduced ps) z
 unfolding normal_parts
@@ -47,9 +37,9 @@ pub normal_is_of : (raw : List Part) → AllByRecursion IsPart raw → AreNormal
 normal_is_of raw all = record {
   rising = rising_normal raw;
   from_part = λ q h.
-      let found = map_has reduced raw q ((has_normal raw q).0 h) in
+      let found = Has-mapped reduced raw q ((has_normal raw q).0 h) in
       (found.0, found.1, subst (IsReduced found.0) found.2 (reduced_is found.0 (all_at IsPart raw found.0 all found.1)));
-  each_part = λ p h. (reduced p, (has_normal raw (reduced p)).1 (has_map reduced raw p h), reduced_is p (all_at IsPart raw p all h));
+  each_part = λ p h. (reduced p, (has_normal raw (reduced p)).1 (Has-map reduced raw p h), reduced_is p (all_at IsPart raw p all h));
 }
 
 pub normal_only : (raw ps : List Part) → AllByRecursion IsPart raw → AreNormalOf raw ps → ps ≡ normal_parts raw
@@ -59,9 +49,9 @@ normal_only raw ps all h =
       λ k.
           let from = h.from_part z k in
           let is = reduced_only from.0 z (all_at IsPart raw from.0 all from.1) from.2 in
-          (has_normal raw z).1 (subst (Has (map reduced raw)) (sym is) (has_map reduced raw from.0 from.1)),
+          (has_normal raw z).1 (subst (Has (map reduced raw)) (sym is) (Has-map reduced raw from.0 from.1)),
       λ k.
-          let found = map_has reduced raw z ((has_normal raw z).0 k) in
+          let found = Has-mapped reduced raw z ((has_normal raw z).0 k) in
           let to = h.each_part found.0 found.1 in
           let is = reduced_only found.0 to.0 (all_at IsPart raw found.0 all found.1) to.2 in
           subst (Has ps) (is ∙ found.2) to.1,
@@ -70,7 +60,7 @@ normal_only raw ps all h =
 pub are_normal : (raw : List Part) → AllByRecursion IsPart raw → AreNormal (normal_parts raw)
 are_normal raw all = record {
   each = all_from IsNormal (normal_parts raw) (λ z h.
-      let found = map_has reduced raw z ((has_normal raw z).0 h) in
+      let found = Has-mapped reduced raw z ((has_normal raw z).0 h) in
       subst IsNormal found.2 (reduced_normal found.0 (all_at IsPart raw found.0 all found.1)));
   rising = rising_normal raw;
 }
@@ -119,7 +109,7 @@ some_normal (p ∷ ps) h = (length-insert_key (reduced p) (in_order part_cmp (ma
 -- if the values of all parts are valid, the values of the parts in the normal form are valid too
 sound_parts : (slot : Slot) (ps : List Part) → AllByRecursion (IsValidPart slot) ps → AllByRecursion (IsValidPart slot) (normal_parts ps)
 sound_parts slot ps all = all_from (IsValidPart slot) (normal_parts ps) (λ z h.
-    let found = map_has reduced ps z ((has_normal ps z).0 h) in
+    let found = Has-mapped reduced ps z ((has_normal ps z).0 h) in
     subst (IsValidPart slot) found.2 (reduced_sound slot found.0 (all_at (IsValidPart slot) ps found.0 all found.1)))
 
 pub component_sound : (slot : Slot) (c : Option (List Part)) → IsValidComponent slot c → IsValidComponent slot (normal_component c)

@@ -62,7 +62,7 @@ unfolding day_named name_of
 some_name [] day is = absurd (some_none day (sym (name_only [] day is)))
 some_name (b ∷ bs) day is = omega arith
 
-letter_by : (b : ℕ) → is_ascii_lowercase (to_ascii_lowercase b) ≡ true → is_ascii_alphabetic b ≡ true
+pub letter_by : (b : ℕ) → is_ascii_lowercase (to_ascii_lowercase b) ≡ true → is_ascii_alphabetic b ≡ true
 letter_by b test = grind (arith, nat_tests)
 
 letters_by : (bs : List ℕ) → list_all is_ascii_lowercase (map to_ascii_lowercase bs) ≡ true → list_all is_ascii_alphabetic bs ≡ true

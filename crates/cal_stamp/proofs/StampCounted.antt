@@ -43,7 +43,7 @@ form_of-counted ds h =
 
 -- ## The proof of `counted_seconds_read_back` in `cal_stamp::laws`
 
-in_time : (micros : ℤ) → pos 0 ≤ℤ micros → micros ≤ℤ pos 7_258_211_998_000_000 → in_moments micros ≡ Ok micros
+pub in_time : (micros : ℤ) → pos 0 ≤ℤ micros → micros ≤ℤ pos 7_258_211_998_000_000 → in_moments micros ≡ Ok micros
 unfolding in_moments
 in_time micros from to = grind (arith, ints)
 

@@ -6,7 +6,6 @@ use Rattle.std.proofs.lemmas.List.{get_or-reverse}
 use Rattle.std.proofs.Math.ListN.{get_or-append}
 use Rattle.std.proofs.Math.Seq.{get_or-append_right}
 use Rattle.std.proofs.lemmas.Bool.Decides.{nat_tests}
-use Rattle.std.proofs.lemmas.Int.{ints}
 use Rattle.jiff.proofs.SpanFacts.{signed_arith}
 use Rattle.jiff.specs.Types.{Date, TimeZone, UTC, Weekday}
 use Rattle.jiff.specs.Words.{epoch_day, monday_zero, nanos_of_seconds, weekday_of, IsBetween}
@@ -32,6 +31,7 @@ use Rattle.cal_spec.proofs.WordsBetween.{words_only}
 use Rattle.cal_bytes.specs.rules.Separators.{is_colon, is_blank, words}
 use Rattle.cal_spec.specs.rules.WordsOfText.{IsWord}
 use Rattle.cal_bytes.specs.rules.TrimRule.{StartsSolid, IsTrimmed}
+use Rattle.cal_stamp.proofs.StampCounted.{in_time}
 use Rattle.cal_stamp.proofs.StampPrintedTexts.{IsClock, IsDayName, date_back, date_no_colon, date_solid, date_some, date_word, in_week, other_date_back, short_names, time_back, time_digit, time_solid, time_some, time_word, year_of}
 use Rattle.cal_zone.proofs.PlaceLemmas.{local_shown_at-UTC}
 use Rattle.cal_stamp.proofs.StampPrintedZones.{IsLastWord, last_byte, shown_last, shown_offset, shown_read, shown_unread, shown_word, utc_minutes}
@@ -288,10 +288,6 @@ micros_in second = (hour_of second * 3_600 + minute_of second * 60) * 1_000_000 
 
 micros_in-is : (second : ℕ) → second < 86_400 → micros_in second ≡ second * 1_000_000
 micros_in-is second h = omega arith
-
-in_time : (micros : ℤ) → pos 0 ≤ℤ micros → micros ≤ℤ pos 7_258_211_998_000_000 → in_moments micros ≡ Ok micros
-unfolding in_moments
-in_time micros from to = grind (arith, ints)
 
 settle_on_back : (zone : TimeZone) (local secs : ℤ) → IsInstant secs → settle_of zone local ≡ secs → settle_on zone (day_of local) (micros_in (second_of_day local)) ≡ Ok (micros_of secs)
 unfolding settle_on

@@ -17,7 +17,7 @@ use Rattle.std.specs.Ordering.{int_cmp, int_eq, is_lt, nat_cmp, ordering_then}
 use Rattle.std.specs.Set.{is_member}
 use Rattle.std.specs.declared.cmp.Ordering.{Ordering}
 use Rattle.std.specs.declared.cmp.Ordering.TheVariants.{Less, Equal, Greater}
-use Rattle.cal_rising.proofs.RisingLemmas.{above_first}
+use Rattle.cal_rising.proofs.RisingLemmas.{above_first, Has-map, Has-mapped}
 use Rattle.cal_rising.proofs.WithoutLemmas.{Has-is_member, is_member-Has}
 use Rattle.cal_rising.specs.rules.Elements.{Has}
 use Rattle.cal_load.specs.declared.loaded.LoadedTimer.{LoadedTimer}
@@ -348,16 +348,6 @@ module _ {X : Type 0} (test : X → Bool) where
   Has-filtered : (xs : List X) (x : X) → Has (filter test xs) x → Has xs x × (test x ≡ true)
   Has-filtered [] x m = absurd m
   Has-filtered (y ∷ ys) x m = was_if x y ys (test y) refl (Has-filtered ys x) m
-
-Has-mapped : {X Y : Type 0} (f : X → Y) (xs : List X) (y : Y) → Has (map f xs) y → (x : X) × Has xs x × (f x ≡ y)
-Has-mapped f [] y m = absurd m
-Has-mapped f (x ∷ xs) y (inl same) = (x, inl refl, same)
-Has-mapped f (x ∷ xs) y (inr later) = let w = Has-mapped f xs y later in (w.0, inr w.1, w.2)
-
-Has-map : {X Y : Type 0} (f : X → Y) (xs : List X) (x : X) → Has xs x → Has (map f xs) (f x)
-Has-map f [] x m = absurd m
-Has-map f (y ∷ ys) x (inl same) = inl (ap f same)
-Has-map f (y ∷ ys) x (inr later) = inr (Has-map f ys x later)
 
 same_int : (i : ℤ) → int_eq i i ≡ true
 same_int i = (Decides-int_eq i i).1 refl

@@ -1,8 +1,9 @@
 -- Lemmas on the difference of two timers: it is empty if and only if their elapses are the same.
-use Rattle.std.proofs.Common.{◌≡◌, ◌↔◌, Bool, true, false, List, [], ◌∷◌, None, ℤ, map, refl, sym, subst, true≢false, ◌∙◌, slice_get}
+use Rattle.std.proofs.Common.{◌≡◌, ◌↔◌, Bool, true, false, List, [], None, ℤ, map, refl, sym, subst, true≢false, ◌∙◌}
 use Rattle.std.specs.List.Sorted.{IsStrictlySortedBy}
 use Rattle.std.specs.Ordering.{int_cmp, int_eq}
 use Rattle.std.specs.Set.{is_member}
+use Rattle.cal_bytes.proofs.General.{list-no_first}
 use Rattle.cal_rising.specs.rules.Elements.{Has}
 use Rattle.cal_rising.specs.rules.RisingList.{without}
 use Rattle.cal_rising.proofs.RisingLemmas.{same_rising}
@@ -15,10 +16,6 @@ use Rattle.cal_tasks.specs.rules.Difference.{first_only_in}
 use Rattle.cal_tasks.specs.rules.LoadedElapses.{elapses_in, lists_of_loaded, setting_for}
 use Rattle.cal_tasks.specs.rules.SameReport.{side_of}
 
-no_first : (xs : List ℤ) → slice_get xs 0 ≡ None → xs ≡ []
-no_first [] none = refl
-no_first (x ∷ xs) none = absurd (cc)
-
 -- if no number is in `xs` but not in `ys`, all numbers of `xs` are in `ys`
 member_of : (xs ys : List ℤ) (i : ℤ) (there : Bool) → is_member int_eq ys i ≡ there → without xs ys ≡ [] → Has xs i → Has ys i
 member_of xs ys i true is none here = Has-is_member ys i is
@@ -26,7 +23,7 @@ member_of xs ys i false is none here =
     absurd (subst (λ (zs : List ℤ). Has zs i) none ((Has-without xs ys i).1 (here, λ other. true≢false (sym (is_member-Has ys i other) ∙ is))))
 
 all_members : (xs ys : List ℤ) → first_only_in xs ys ≡ None → (i : ℤ) → Has xs i → Has ys i
-all_members xs ys none i = member_of xs ys i (is_member int_eq ys i) refl (no_first (without xs ys) none)
+all_members xs ys none i = member_of xs ys i (is_member int_eq ys i) refl (list-no_first (without xs ys) none)
 
 none_only : (xs ys : List ℤ) → xs ≡ ys → first_only_in xs ys ≡ None
 none_only xs ys same =

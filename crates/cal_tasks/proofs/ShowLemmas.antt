@@ -5,6 +5,7 @@ use Rattle.std.specs.List.{AllByRecursion, last_or}
 use Rattle.std.specs.List.Sorted.{IsStrictlySortedBy}
 use Rattle.std.specs.Ordering.{int_cmp}
 use Rattle.std.specs.declared.cmp.Ordering.TheVariants.{Less}
+use Rattle.cal_bytes.proofs.General.{slice_get-take}
 use Rattle.cal_elapse.proofs.ElapsesLemmas.{AreElapses-elapses_except, elapses_except-later}
 use Rattle.cal_elapse.specs.rules.Elapses.{IsElapseExcept}
 use Rattle.cal_load.specs.declared.loaded.LoadedTimer.{LoadedTimer}
@@ -69,12 +70,6 @@ drop-length-take : (n : ℕ) (xs : List ℤ) → drop (length (take n xs)) xs �
 drop-length-take zero xs = refl
 drop-length-take (suc n) [] = refl
 drop-length-take (suc n) (x ∷ xs) = drop-length-take n xs
-
-slice_get-take : (n : ℕ) (xs : List ℤ) (k : ℕ) (e : ℤ) → slice_get (take n xs) k ≡ Some e → slice_get xs k ≡ Some e
-slice_get-take zero xs k e h = absurd (cc)
-slice_get-take (suc n) [] k e h = absurd (cc)
-slice_get-take (suc n) (x ∷ xs) zero e h = h
-slice_get-take (suc n) (x ∷ xs) (suc k) e h = slice_get-take n xs k e h
 
 -- the last element of a list is the one before its end
 last_is : (xs : List ℤ) (o : Option ℤ) (e : ℤ) → last_or o xs ≡ Some e

@@ -18,10 +18,7 @@ use Rattle.cal_timer.specs.computed.ResumedLists.{changed, empty_lists, with_ass
 use Rattle.cal_timer.specs.declared.fault.TimerFault.{TimerFault}
 use Rattle.cal_timer.specs.declared.fault.TimerFault.TheVariants.{BadLine}
 use Rattle.cal_timer.proofs.ResumedLemmas.{joined_bad, joined_many, joined_read, resumed_changed, resumed_fault}
-use Rattle.cal_bytes.proofs.General.{after_last_here, after_last_more}
-
-option_or-none : {A : Type 0} (o : Option A) → option_or o None ≡ o
-option_or-none o = grind arith
+use Rattle.cal_bytes.proofs.General.{after_last_here, after_last_more, option_or-none}
 
 -- One of the two lists, defined by two tests: assignments that pass `adds` are added to the list, and assignments that
 -- pass `resets` clear it. The lemmas say how one more assignment changes the list.

@@ -1,17 +1,15 @@
 -- The functions of `Lines` compute what the relations of `LogicalRule` describe, and no other results satisfy these
 -- relations.
-use Rattle.std.proofs.Common.{◌≡◌, ℕ, ◌+◌, ◌-◌, ◌<◌, ◌==◌, Bool, true, false, List, [], ◌∷◌, ◌++◌, length, not, filter, map, take, get_or, reverse, refl, sym, ap, ◌∙◌, inl, inr, arith}
-use Rattle.std.specs.List.{suffix_len}
+use Rattle.std.proofs.Common.{◌≡◌, ℕ, ◌+◌, ◌-◌, Bool, true, false, List, [], ◌∷◌, ◌++◌, length, not, filter, map, take, refl, sym, ap, ◌∙◌, inl, inr, arith}
 use Rattle.std.specs.Str.Lines.{lines}
-use Rattle.std.proofs.Math.Seq.{take-append_seam, take-length}
-use Rattle.std.proofs.lemmas.Bool.Decides.{nat_tests}
-use Rattle.std.proofs.lemmas.List.{get_or-reverse, length-append, take_more}
-use Rattle.std.proofs.lemmas.List.Sums.{prefix_len_passes, suffix_len-le-length}
+use Rattle.std.proofs.Math.Seq.{take-append_seam}
+use Rattle.std.proofs.lemmas.List.{length-append}
 use Rattle.cal_bytes.specs.rules.Trim.{trim_start_matches}
 use Rattle.cal_bytes.proofs.TrimLemmas.{unindented, unindented_only}
 use Rattle.cal_timer.specs.rules.Lines.{Group, Line, groups, is_blank_or_return, is_comment, is_continued, joined_line, logical_lines, numbered_lines, part_of_line, physical_lines, plain_lines}
 use Rattle.cal_timer.specs.rules.LogicalRule.{AreJoined, AreLogical, ArePhysical, EachIsLogical, IsLinePart}
 use Rattle.cal_timer.proofs.GroupLemmas.{parts_of}
+use Rattle.cal_timer.proofs.LineLemmas.{ends_in_backslash}
 use Rattle.cal_timer.proofs.LineRuleLemmas.{are_groups, groups_of_lines, lines_of_groups}
 
 -- `numbered_lines`, applied to lines without their leading blanks, returns the physical lines that `ArePhysical`
@@ -30,24 +28,10 @@ physical_only number (text ∷ texts) (line ∷ all) h =
     let first : line ≡ record { number = number; text = trim_start_matches is_blank_or_return text } = λ i. record { number = h.0 i; text = text_is i } in
     ap (λ l. l ∷ all) first ∙ ap (λ ls. record { number = number; text = trim_start_matches is_blank_or_return text } ∷ ls) rest
 
--- the last byte of a continued line is a backslash
-last_byte : (text : List ℕ) → is_continued text ≡ true → text ≡ take (length text - 1) text ++ 92 ∷ []
-unfolding is_continued
-last_byte text h =
-    let some : 0 < suffix_len (λ b. b == 92) text = grind (arith, nat_tests) in
-    let fits = suffix_len-le-length (λ b. b == 92) text in
-    let passes : (get_or (reverse text) 0 0 == 92) ≡ true = prefix_len_passes (λ b. b == 92) (reverse text) 0 0 some in
-    let there : get_or (reverse text) 0 0 ≡ get_or text (length text - 1) 0 = get_or-reverse text 0 0 (omega arith) ∙ ap (λ k. get_or text k 0) (omega arith) in
-    let same : (get_or text (length text - 1) 0 == 92) ≡ true = rw there at passes in
-    let byte : get_or text (length text - 1) 0 ≡ 92 = grind (arith, nat_tests) in
-    let whole : length text - 1 + 1 ≡ length text = omega arith in
-    sym (take-length text) ∙ (ap (λ n. take n text) (sym whole) ∙ (take_more text (length text - 1) 0 (omega arith)
-    ∙ ap (λ b. take (length text - 1) text ++ b ∷ []) byte))
-
 -- `part_of_line` returns what a line contributes to its logical line according to the rule `IsLinePart`
 part_as : (continued : Bool) (text : List ℕ) → is_continued text ≡ continued → IsLinePart text (part_of_line text)
 unfolding part_of_line
-part_as true text e = rw e (inr (record { continued = e; front = take (length text - 1) text; line = last_byte text e; said = refl }))
+part_as true text e = rw e (inr (record { continued = e; front = take (length text - 1) text; line = ends_in_backslash text e; said = refl }))
 part_as false text e = rw e (inl (refl, refl))
 
 pub part : (text : List ℕ) → IsLinePart text (part_of_line text)

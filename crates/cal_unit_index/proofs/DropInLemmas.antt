@@ -21,6 +21,7 @@ use Rattle.std.proofs.lemmas.List.Sums.{fold-append}
 use Rattle.std.proofs.lemmas.Bool.{false_from_ne_true}
 use Rattle.std.proofs.lemmas.Map.Text.{is_eq-slice_cmp}
 use Rattle.std.proofs.lemmas.Slice.Eq.{bytes_eq-Decides}
+use Rattle.cal_bytes.proofs.General.{option_or-none}
 use Rattle.cal_unit_index.specs.declared.drop_in_files.DropIn.{DropIn}
 use Rattle.cal_unit_index.specs.rules.DropIns.{FolderFile, by_name, candidates, chosen, enter, file_in, is_drop_in, shown_drop_in, shown_pair}
 
@@ -91,14 +92,10 @@ last_after name entries (x ∷ xs) =
     ∙ ap (λ o. option_or (option_map (λ file. file.path) o) (lookup (bytes_eq name) entries)) (sym (find-append (λ file. bytes_eq name file.name) (reverse xs) (x ∷ [])))
     ∙ ap (λ all. option_or (option_map (λ file. file.path) (find (λ file. bytes_eq name file.name) all)) (lookup (bytes_eq name) entries)) (sym (reverse-append (x ∷ []) xs))
 
-or_none : {X : Type 0} (o : Option X) → option_or o None ≡ o
-or_none (Some x) = refl
-or_none None = refl
-
 -- of several files with the same name, `by_name` has the path of the last
 pub last_of_name : (found : List FolderFile) (name : List ℕ) → lookup (bytes_eq name) (by_name found) ≡ option_map (λ file. file.path) (find (λ file. bytes_eq name file.name) (reverse found))
 unfolding by_name
-last_of_name found name = last_after name [] found ∙ or_none (option_map (λ file. file.path) (find (λ file. bytes_eq name file.name) (reverse found)))
+last_of_name found name = last_after name [] found ∙ option_or-none (option_map (λ file. file.path) (find (λ file. bytes_eq name file.name) (reverse found)))
 
 -- if the Rust map has the entries of `by_name` for `files`, then entering `file` into the map gives it the entries of
 -- `by_name` for `files` and `file`

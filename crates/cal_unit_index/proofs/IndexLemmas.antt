@@ -1,5 +1,5 @@
 -- What one more folder, stem or name adds to the index, and to the sets and lists that loops make from the index.
-use Rattle.std.proofs.Common.{◌≡◌, ◌∙◌, ◌+◌, ◌<◌, ℕ, Bool, true, false, cond, List, [], ◌∷◌, ◌++◌, Option, Some, None, refl, sym, ap, append_assoc, get_or, inl, inr, length, map, option_map, string_bytes, take}
+use Rattle.std.proofs.Common.{◌≡◌, ◌∙◌, ◌+◌, ◌<◌, ℕ, Bool, true, false, cond, List, [], ◌∷◌, ◌++◌, Option, Some, None, refl, sym, ap, append_assoc, filter, get_or, inl, inr, length, map, option_map, string_bytes, take}
 use Rattle.std.specs.Prelude.{◌||◌, String, Vec, is_some, slice_get}
 use Rattle.std.specs.BTreeSet.{insert_key}
 use Rattle.std.specs.Cmp.Lexicographic.{slice_cmp}
@@ -13,11 +13,12 @@ use Rattle.std.specs.declared.cmp.Ordering.{Ordering}
 use Rattle.std.specs.declared.cmp.Ordering.TheVariants.{Less, Equal, Greater}
 use Rattle.std.proofs.lemmas.Bool.{cases_Bool, false_from_ne_true}
 use Rattle.std.proofs.lemmas.List.{flat_map_more, map-append, take_more}
-use Rattle.std.proofs.lemmas.List.Elements.{filter_map-append}
+use Rattle.std.proofs.lemmas.List.Elements.{filter-append, filter_map-append}
 use Rattle.std.proofs.lemmas.List.Folds.{flat_map-map, list_any-append}
 use Rattle.std.proofs.lemmas.List.Sums.{fold-append}
 use Rattle.std.proofs.lemmas.Map.Text.{is_eq-slice_cmp}
 use Rattle.std.proofs.lemmas.Slice.Eq.{bytes_eq-Decides}
+use Rattle.cal_bytes.proofs.General.{not_some, option_or-none}
 use Rattle.cal_machine.specs.rules.Machine.{Machine}
 use Rattle.cal_machine.specs.rules.Places.{names_at}
 use Rattle.cal_unit_index.specs.declared.fault.UnitFault.{UnitFault}
@@ -87,15 +88,18 @@ set_more f view xs i x before after h is added held =
     ∙ sym (fold-append (insert_key (slice_cmp nat_cmp)) [] (filter_map f (map view (take i xs))) (option_to_list (f (view x))))
     ∙ ap sorted_once (mapped_more f view (take i xs) x ∙ ap (λ ys. filter_map f (map view ys)) (sym (next_taken xs i x h is)))
 
+-- if `before` is the set of the names in `xs` that pass a test, and `after` also has the name of `x` if it passes, then
+-- `after` is the set for `xs` and `x`
+pub passing_pushed : {X : Type 0} (test : List ℕ → Bool) (view : X → List ℕ) (before after : List (List ℕ)) (xs : List X) (x : X)
+    → after ≡ with_texts before (filter test (view x ∷ [])) → before ≡ sorted_once (filter test (map view xs))
+    → after ≡ sorted_once (filter test (map view (xs ++ x ∷ [])))
+passing_pushed test view before after xs x added held =
+    added
+    ∙ ap (λ names. with_texts names (filter test (view x ∷ []))) held
+    ∙ sym (fold-append (insert_key (slice_cmp nat_cmp)) [] (filter test (map view xs)) (filter test (view x ∷ [])))
+    ∙ ap sorted_once (sym (filter-append test (map view xs) (view x ∷ [])) ∙ ap (filter test) (sym (map-append view xs (x ∷ []))))
+
 -- ## Destinations
-
-none_if : {X : Type 0} (o : Option X) → is_some o ≡ false → o ≡ None
-none_if None e = refl
-none_if (Some x) e = absurd (cc)
-
-or_none : {X : Type 0} (o : Option X) → option_or o None ≡ o
-or_none None = refl
-or_none (Some x) = refl
 
 -- entering a destination for a stem that had none changes the look-up of this stem, and of no other
 pub entered_new : {X Y : Type 0} (view : X → Y) (old new : List ℕ → Option X) (stem other : List ℕ) (destination : X)
@@ -106,14 +110,14 @@ entered_new view old new stem other destination absent now =
       | inl is ↦
           (let same : other ≡ stem = (bytes_eq-Decides other stem).0 is in
           let also : bytes_eq stem other ≡ true = (bytes_eq-Decides stem other).1 (sym same) in
-          let was : old other ≡ None = ap old same ∙ none_if (old stem) absent in
+          let was : old other ≡ None = ap old same ∙ not_some (old stem) absent in
           let has : new other ≡ Some destination = now ∙ ap (λ b. cond b (Some destination) (old other)) also in
           rw (has, was, is) refl)
       | inr differs ↦
           (let also : bytes_eq stem other ≡ false =
           false_from_ne_true (bytes_eq stem other) (λ is. let again : bytes_eq other stem ≡ true = (bytes_eq-Decides other stem).1 (sym ((bytes_eq-Decides stem other).0 is)) in absurd (cc)) in
           let has : new other ≡ old other = now ∙ ap (λ b. cond b (Some destination) (old other)) also in
-          rw (has, differs) (sym (or_none (option_map view (old other)))))
+          rw (has, differs) (sym (option_or-none (option_map view (old other)))))
     ]
 
 among_either : {X : Type 0} (a d : Option X) (b c : Bool) → option_or (option_or a (cond b d None)) (cond c d None) ≡ option_or a (cond (b || c) d None)

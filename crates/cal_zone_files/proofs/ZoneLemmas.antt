@@ -41,6 +41,7 @@ pub empty_has : (name : List ℕ) → is_some (zone_named empty name) ≡ is_utc
 unfolding zone_named
 empty_has name = grind (arith, get-empty {X = TimeZone} (slice_cmp nat_cmp) name)
 
+-- all zones of the empty table are zones of the machine
 pub empty_has_none : (machine : Machine) → HasZonesOf machine empty
 unfolding zone_named
 empty_has_none machine name other = rw (other, get-empty {X = TimeZone} (slice_cmp nat_cmp) name) tt

@@ -2,7 +2,7 @@ use Rattle.std.proofs.Common.{rules, string_bytes, sym, ◌∙◌}
 use Rattle.std.proofs.lemmas.Iterator.{YieldsList-from_slice}
 use Rattle.std.proofs.lemmas.Iterator.Search.{any_from_yields_List}
 use Rattle.std.specs.Str.{bytes_eq}
-use Rattle.cal_answers.proofs.LintLemmas.{list_any-map}
+use Rattle.cal_bytes.proofs.General.{list_any-map}
 use borrow.Author.Tests.{tests}
 use Rattle.cal_answers.proofs.answer.has_line.Goals as goal
 

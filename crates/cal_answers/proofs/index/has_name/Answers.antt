@@ -2,7 +2,7 @@ use Rattle.std.proofs.Common.{not, rules, string_bytes, sym, ◌∙◌}
 use Rattle.std.proofs.lemmas.Iterator.{YieldsList-from_slice}
 use Rattle.std.proofs.lemmas.Iterator.Search.{any_from_yields_List}
 use Rattle.cal_load.specs.rules.AllTargets.{is_path}
-use Rattle.cal_answers.proofs.LintLemmas.{list_any-map}
+use Rattle.cal_bytes.proofs.General.{list_any-map}
 use borrow.Author.Tests.{tests}
 use Rattle.cal_answers.proofs.index.has_name.Goals as goal
 

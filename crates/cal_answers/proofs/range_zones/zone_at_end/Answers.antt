@@ -4,12 +4,12 @@ use Rattle.std.proofs.lemmas.Bool.{false≢true}
 use Rattle.cal_zone.specs.rules.ZoneTable.{zone_named}
 use Rattle.cal_zone_files.specs.declared.fault.FileReason.{FileReason}
 use Rattle.cal_zone_files.specs.rules.ZoneFiles.{HasZonesOf, IsReasonOn}
-use Rattle.cal_answers.proofs.RangeZoneLemmas.{none_has}
+use Rattle.cal_zone_files.proofs.ZoneLemmas.{empty_has_none}
 use Rattle.cal_answers.proofs.range_zones.zone_at_end.Goals as goal
 
 pub returns-in_default-clause-zone : goal.returns-in_default-clause-zone
 returns-in_default-clause-zone g c = λ machine shows. record {
-  of_machine = subst (HasZonesOf machine) (sym c.new.ensures) (none_has machine);
+  of_machine = subst (HasZonesOf machine) (sym c.new.ensures) (empty_has_none machine);
   lacks = λ named. absurd (false≢true (sym c.in_default.ensures ∙ named));
 }
 

@@ -1,7 +1,7 @@
 use Rattle.std.proofs.Common.{rules, string_bytes, sym, ◌∙◌}
 use Rattle.std.proofs.lemmas.Iterator.{YieldsList-from_slice}
 use Rattle.std.proofs.lemmas.Iterator.Search.{any_from_yields_List}
-use Rattle.cal_answers.proofs.LintLemmas.{list_any-map}
+use Rattle.cal_bytes.proofs.General.{list_any-map}
 use Rattle.cal_answers.specs.rules.Remarks.{is_drop_in}
 use borrow.Author.Tests.{tests}
 use Rattle.cal_answers.proofs.remarks.has_drop_in.Goals as goal

@@ -1,5 +1,5 @@
 use Rattle.std.proofs.Common.{ap, arith, length}
-use Rattle.cal_cron.proofs.TrimLemmas.{trimmed_is_shorter}
+use Rattle.cal_bytes.proofs.TrimLemmas.{trimmed_is_shorter}
 use Rattle.cal_cron.proofs.entries.end_column.Goals as goal
 
 pub overflow_cast-result : goal.overflow_cast-result

@@ -3,7 +3,7 @@ use Rattle.std.proofs.lemmas.Iterator.{YieldsList-from_slice}
 use Rattle.std.proofs.lemmas.Iterator.Search.{any_from_yields_List}
 use Rattle.cal_cron.specs.computed.CrontabViews.{line_shown}
 use Rattle.cal_cron.specs.rules.CrontabLines.{Line}
-use Rattle.cal_crontabs.proofs.CrontabFileLemmas.{list_any-map}
+use Rattle.cal_bytes.proofs.General.{list_any-map}
 use Rattle.cal_crontabs.specs.rules.CrontabFiles.{is_header}
 use borrow.Author.Tests.{tests}
 use Rattle.cal_crontabs.proofs.crontab_files.has_header.Goals as goal

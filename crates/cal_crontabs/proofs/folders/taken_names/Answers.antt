@@ -1,6 +1,6 @@
 use Rattle.std.proofs.Common.{map, string_bytes}
 use Rattle.cal_crontabs.specs.rules.Crontabs.{is_taken}
-use Rattle.cal_crontabs.proofs.EntryLemmas.{passing_pushed}
+use Rattle.cal_unit_index.proofs.IndexLemmas.{passing_pushed}
 use Rattle.cal_crontabs.proofs.folders.taken_names.Goals as goal
 
 pub loop-name-preserved : goal.loop-name-preserved

@@ -1,6 +1,6 @@
 use Rattle.std.proofs.Common.{map, string_bytes}
 use Rattle.cal_load.specs.rules.AllTargets.{is_text_name}
-use Rattle.cal_load.proofs.UnitLemmas.{passing_pushed}
+use Rattle.cal_unit_index.proofs.IndexLemmas.{passing_pushed}
 use Rattle.cal_load.proofs.names.text_names.Goals as goal
 
 pub loop-name-preserved : goal.loop-name-preserved

@@ -2,26 +2,17 @@ use Rattle.std.proofs.Common.{arith, sym, ap, ◌∷◌, ◌∙◌, List, [], le
 use Rattle.std.specs.Str.Lines.{lines, lines_of_parts, strip_carriage_return}
 use Rattle.std.proofs.lemmas.Bool.Decides.{nat_tests}
 use Rattle.std.proofs.lemmas.Str.Pattern.{NoCharPasses-char, split_once_first}
+use Rattle.cal_timer.proofs.LineLemmas.{lines_of_more, some_line}
 use Rattle.cal_timer.proofs.lines.first_line.Goals as goal
 use Rattle.std.specs.List.{slice_split, after_first, before_first, position_or_len}
 use Rattle.std.proofs.lemmas.List.Splits.{length-slice_split, slice_split_first, slice_split_none}
 use Rattle.std.proofs.lemmas.List.Elements.{All-from_get_or}
-
--- `part` and `parts` are the pieces of a text between line feeds. If `parts` isn't empty, the first line of the text is
--- `part`, without its last byte if this byte is a carriage return, and the other lines are those of `parts`.
-lines_of_more : (part : List ℕ) (parts : List (List ℕ)) → 0 < length parts → lines_of_parts (part ∷ parts) ≡ strip_carriage_return part ∷ lines_of_parts parts
-lines_of_more part [] h = absurd (omega arith)
-lines_of_more part (next ∷ parts) h = refl
 
 lines_first : (text line rest : List ℕ) → position_or_len (λ b. b == 10) text < length text → line ≡ before_first (λ b. b == 10) text → rest ≡ after_first (λ b. b == 10) text → lines text ≡ strip_carriage_return line ∷ lines rest
 lines_first text line rest h e f =
     ap lines_of_parts (slice_split_first (λ b. b == 10) text 0 h)
     ∙ lines_of_more _ (slice_split (λ b. b == 10) (after_first (λ b. b == 10) text)) (omega (arith, length-slice_split (λ b. b == 10) (after_first (λ b. b == 10) text)))
     ∙ rw (e, f) refl
-
-some_line : (part : List ℕ) → 0 < length part → lines_of_parts (part ∷ []) ≡ part ∷ []
-some_line [] h = absurd (omega arith)
-some_line (b ∷ part) h = grind (arith, nat_tests)
 
 -- a nonempty text without a line feed is one line
 lines_last : (text : List ℕ) → 0 < length text → ((i : ℕ) → i < length text → get_or text i 0 ≢ 10) → lines text ≡ text ∷ []

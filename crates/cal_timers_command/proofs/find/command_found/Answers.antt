@@ -1,24 +1,11 @@
-use Rattle.std.proofs.Common.{◌≡◌, ◌∙◌, None, Some, Option, arith, lit<}
-use Rattle.std.specs.Prelude.{option_map}
+use Rattle.std.proofs.Common.{◌∙◌, lit<}
 use Rattle.std.proofs.lemmas.Result.{IfOk-weaker}
 use Rattle.clap.specs.Words.{found_of, rows_of, subcommand_rows_of}
+use Rattle.cal_options.proofs.CommandLemmas.{map-first, pair_none, pair_some}
 use Rattle.cal_timers_command.specs.rules.Questions.{no_question}
 use Rattle.cal_timers_command.proofs.AskedLemmas.{none_found, unnamed_found, verb_found}
 use Rattle.cal_timers_command.proofs.OptionLemmas.{usage_fault}
 use Rattle.cal_timers_command.proofs.find.command_found.Goals as goal
-
--- mapping an option with `f` returns the same as mapping it to the pair `(f b, g b)` and then taking the first element
--- of the pair
-map-first : {B X Y : Type 0} (f : B → X) (g : B → Y) (o : Option B)
-    → option_map f o ≡ option_map (λ (p : X × Y). p.0) (option_map (λ b. (f b, g b)) o)
-map-first f g o = grind arith
-
-pair_none : {X Y : Type 0} (o : Option (X × Y)) → None ≡ option_map (λ (p : X × Y). p.0) o → o ≡ None
-pair_none o h = grind arith
-
-pair_some : {X Y : Type 0} (o : Option (X × Y)) (x : X) (y : Y) → Some x ≡ option_map (λ (p : X × Y). p.0) o
-    → Some y ≡ option_map (λ (p : X × Y). p.1) o → o ≡ Some (x, y)
-pair_some o x y h k = grind arith
 
 pub returns-in_default-clause-fault : goal.returns-in_default-clause-fault
 returns-in_default-clause-fault c =

@@ -1,7 +1,7 @@
 use Rattle.std.proofs.Common.{rules, sym, ◌∙◌}
 use Rattle.std.proofs.lemmas.Iterator.{YieldsList-from_slice}
 use Rattle.std.proofs.lemmas.Iterator.Search.{any_from_yields_List}
-use Rattle.cal_answers.proofs.LintLemmas.{list_any-map}
+use Rattle.cal_bytes.proofs.General.{list_any-map}
 use Rattle.cal_answers.specs.rules.LintRows.{Listed, is_error_at, listed_as}
 use borrow.Author.Tests.{tests}
 use Rattle.cal_answers.proofs.problems.Problems.has_error_at.Goals as goal
