@@ -9,7 +9,7 @@ import time
 ROOT = os.path.dirname(os.path.dirname(os.path.dirname(os.path.realpath(__file__))))
 # For a rough estimate: the seconds for loading the libraries below a crate, and the lines of source proved per second.
 LOADING_SECONDS = 20
-LINES_PER_SECOND = 7
+LINES_PER_SECOND = 5
 
 
 def libraries():
