@@ -4,6 +4,7 @@ ghost use Rattle.std.specs.Prelude.{◌≡◌, List, Some, false, map, IfOk};
 ghost use Rattle.clap.specs.Words.{Shape, app_of, rule_of, shape_of};
 ghost use Rattle.clap.specs.declared.builder.action.ArgAction.TheVariants.{Set, SetTrue};
 ghost use Rattle.clap.specs.declared.builder.command.Command.TheViews.{out-Command as fields_of};
+ghost use Rattle.clap.specs.declared.builder.texts.Texts.TheVariants.{One};
 ghost use Rattle.cal_options.specs.rules.Arguments.{shown_argument, shown_subcommand, with_rules, with_subcommands};
 
 use crate::argument::{Argument, ArgumentForm};
@@ -97,22 +98,19 @@ fn build_argument<'a>(alloc: Global, argument: Argument) -> Arg<'a>
 }
 
 fn value_arg<'a>(arg: Arg<'a>, argument: Argument) -> Arg<'a>
-    ensures rule { rule_of result ≡ record (rule_of arg.entry) { long = Some argument.name.now; action = Some Set; value_names = 1 } }
-    ensures not_global { result.global ≡ arg.entry.global }
+    ensures { result ≡ record arg.entry { val_names = One argument.value_name; action = Some Set; long = Some argument.name } }
 {
     arg_with_value(arg, argument, ArgAction::Set).long(argument.name)
 }
 
 fn flag_arg<'a>(arg: Arg<'a>, argument: Argument) -> Arg<'a>
-    ensures rule { rule_of result ≡ record (rule_of arg.entry) { long = Some argument.name.now; action = Some SetTrue } }
-    ensures not_global { result.global ≡ arg.entry.global }
+    ensures { result ≡ record arg.entry { long = Some argument.name; action = Some SetTrue } }
 {
     arg.long(argument.name).action(ArgAction::SetTrue)
 }
 
 fn arg_with_value<'a>(arg: Arg<'a>, argument: Argument, action: ArgAction) -> Arg<'a>
-    ensures rule { rule_of result ≡ record (rule_of arg.entry) { action = Some action; value_names = 1 } }
-    ensures not_global { result.global ≡ arg.entry.global }
+    ensures { result ≡ record arg.entry { val_names = One argument.value_name; action = Some action } }
 {
     arg.value_name(argument.value_name).action(action)
 }
