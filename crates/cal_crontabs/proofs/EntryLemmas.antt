@@ -34,30 +34,30 @@ entries_more crontab cron_tz (first ∷ lines) line =
     ∙ sym (append_assoc (entries_at crontab cron_tz first) _ _)
 
 -- a loop's step: the entry of one more line, if it has one, is at the end
-pub entry_added : {X : Type 0} (crontab : Crontab) (view : X → Line) (xs : List X) (x : X) (cron_tz : Option (List ℕ)) (start now new : List EntryView)
-    → now ≡ start ++ entries_below crontab None (map view xs) → cron_tz ≡ zone_below None (map view xs)
-    → new ≡ now ++ entries_at crontab cron_tz (view x) → new ≡ start ++ entries_below crontab None (map view (xs ++ x ∷ []))
-entry_added crontab view xs x cron_tz start now new was above more =
+pub entry_added : {X : Type 0} (crontab : Crontab) (view : X → Line) (xs : List X) (x : X) (all : List X) (cron_tz : Option (List ℕ)) (start now new : List EntryView)
+    → xs ++ x ∷ [] ≡ all → now ≡ start ++ entries_below crontab None (map view xs) → cron_tz ≡ zone_below None (map view xs)
+    → new ≡ now ++ entries_at crontab cron_tz (view x) → new ≡ start ++ entries_below crontab None (map view all)
+entry_added crontab view xs x all cron_tz start now new same was above more =
     more
     ∙ ap (λ l. l ++ entries_at crontab cron_tz (view x)) was
     ∙ append_assoc start (entries_below crontab None (map view xs)) (entries_at crontab cron_tz (view x))
     ∙ ap (λ z. start ++ (entries_below crontab None (map view xs) ++ entries_at crontab z (view x))) above
     ∙ ap (λ l. start ++ l)
-    (sym (entries_more crontab None (map view xs) (view x)) ∙ ap (entries_below crontab None) (sym (map-append view xs (x ∷ []))))
+    (sym (entries_more crontab None (map view xs) (view x)) ∙ ap (entries_below crontab None) (sym (map-append view xs (x ∷ [])) ∙ ap (map view) same))
 
 -- a loop's step: what one more element adds is at the end
-pub flat_added : {X Y A : Type 0} (f : Y → List A) (view : X → Y) (xs : List X) (x : X) (start now new : List A)
-    → now ≡ start ++ flat_map f (map view xs) → new ≡ now ++ f (view x) → new ≡ start ++ flat_map f (map view (xs ++ x ∷ []))
-flat_added f view xs x start now new was more =
+pub flat_added : {X Y A : Type 0} (f : Y → List A) (view : X → Y) (xs : List X) (x : X) (all : List X) (start now new : List A)
+    → xs ++ x ∷ [] ≡ all → now ≡ start ++ flat_map f (map view xs) → new ≡ now ++ f (view x) → new ≡ start ++ flat_map f (map view all)
+flat_added f view xs x all start now new same was more =
     more ∙ ap (λ l. l ++ f (view x)) was ∙ flat_map_more f start (map view xs) (view x)
-    ∙ ap (λ ys. start ++ flat_map f ys) (sym (map-append view xs (x ∷ [])))
+    ∙ ap (λ ys. start ++ flat_map f ys) (sym (map-append view xs (x ∷ [])) ∙ ap (map view) same)
 
 -- a loop's step: the value of `CRON_TZ` below one more line
-pub zone_added : {X : Type 0} (view : X → Line) (xs : List X) (x : X) (cron_tz below : Option (List ℕ))
-    → cron_tz ≡ zone_below None (map view xs) → below ≡ zone_after cron_tz (view x).content → below ≡ zone_below None (map view (xs ++ x ∷ []))
-zone_added view xs x cron_tz below was after =
+pub zone_added : {X : Type 0} (view : X → Line) (xs : List X) (x : X) (all : List X) (cron_tz below : Option (List ℕ))
+    → xs ++ x ∷ [] ≡ all → cron_tz ≡ zone_below None (map view xs) → below ≡ zone_after cron_tz (view x).content → below ≡ zone_below None (map view all)
+zone_added view xs x all cron_tz below same was after =
     after ∙ ap (λ z. zone_after z (view x).content) was
-    ∙ sym (zone_more None (map view xs) (view x)) ∙ ap (zone_below None) (sym (map-append view xs (x ∷ [])))
+    ∙ sym (zone_more None (map view xs) (view x)) ∙ ap (zone_below None) (sym (map-append view xs (x ∷ [])) ∙ ap (map view) same)
 
 -- ## A text in a text
 

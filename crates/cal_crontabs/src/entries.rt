@@ -74,7 +74,7 @@ impl<'t> CronReport<'t> {
             ≡ string_bytes self.old.errors ++ error_lines_of exprs_in (shown_crontab crontab.now)) }
     {
         let lines = lines_of(alloc, crontab.format, crontab.text.as_str())?;
-        self.add_lines(alloc, crontab, lines)
+        self.add_lines(alloc, crontab, lines.as_slice())
     }
 
     /// Adds the entries in the lines of a crontab.
@@ -82,12 +82,12 @@ impl<'t> CronReport<'t> {
         &mut self,
         alloc: Global,
         crontab: &'t Crontab,
-        lines: Vec<CrontabLine<'t>>,
+        lines: &[CrontabLine<'t>],
     ) -> Result<(), AllocError>
         ensures entries { OnOk result (map entry_seen self.new.entries.items
-            ≡ map entry_seen self.old.entries.items ++ entries_in (shown_crontab crontab.now) (map line_shown lines.entry.items)) }
+            ≡ map entry_seen self.old.entries.items ++ entries_in (shown_crontab crontab.now) (map line_shown lines.now)) }
         ensures errors { OnOk result (string_bytes self.new.errors
-            ≡ string_bytes self.old.errors ++ error_lines_in (shown_crontab crontab.now) (map line_shown lines.entry.items)) }
+            ≡ string_bytes self.old.errors ++ error_lines_in (shown_crontab crontab.now) (map line_shown lines.now)) }
     {
         let mut zone: Option<&'t str> = None;
         for line in lines {
@@ -104,28 +104,22 @@ impl<'t> CronReport<'t> {
         alloc: Global,
         crontab: &'t Crontab,
         zone: Option<&'t str>,
-        line: CrontabLine<'t>,
+        line: &CrontabLine<'t>,
     ) -> Result<(), AllocError>
         ensures entries { OnOk result (map entry_seen self.new.entries.items
-            ≡ map entry_seen self.old.entries.items ++ entries_at (shown_crontab crontab.now) (option_copied zone.entry) (line_shown line.entry)) }
+            ≡ map entry_seen self.old.entries.items ++ entries_at (shown_crontab crontab.now) (option_copied zone.entry) (line_shown line.now)) }
         ensures errors { OnOk result (string_bytes self.new.errors
-            ≡ string_bytes self.old.errors ++ error_lines_at (shown_crontab crontab.now) (line_shown line.entry)) }
+            ≡ string_bytes self.old.errors ++ error_lines_at (shown_crontab crontab.now) (line_shown line.now)) }
     {
-        let CrontabLine {
-            number,
-            column: _,
-            text,
-            content,
-        } = line;
-        match content {
+        match &line.content {
             LineContent::Assignment(_) => Ok(()),
             LineContent::Entry(entry) => {
-                let entry = entry_at(alloc, crontab, zone, number, text, &entry)?;
+                let entry = entry_at(alloc, crontab, zone, line.number, line.text, entry)?;
                 self.entries.push(entry)?;
                 Ok(())
             }
             LineContent::Invalid(fault) => {
-                push_error_line(&mut self.errors, crontab.name.as_str(), number, fault)
+                push_error_line(&mut self.errors, crontab.name.as_str(), line.number, *fault)
             }
         }
     }
