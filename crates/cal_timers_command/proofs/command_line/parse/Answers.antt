@@ -1,6 +1,7 @@
-use Rattle.std.proofs.Common.{◌∙◌, ap, sym}
+use Rattle.std.proofs.Common.{◌∙◌, ap, subst, sym}
 use Rattle.std.proofs.lemmas.Result.{IfOk-weaker}
 use Rattle.clap.specs.Words.{fault_of, is_simple_and_free, subcommand_of}
+use Rattle.cal_options.specs.rules.ArgumentFault.{IsRefusalOf, shown_fault}
 use Rattle.cal_timers_command.specs.rules.Texts.{texts_of}
 use Rattle.cal_timers_command.proofs.AskedLemmas.{if_err_weaker}
 use Rattle.cal_timers_command.proofs.CommandLemmas.{is_free_command}
@@ -19,4 +20,4 @@ returns-clause-found c =
 
 pub returns-clause-fault : goal.returns-clause-fault
 returns-clause-fault c =
-    if_err_weaker c.parse.result _ _ (λ fault is. rw c.in_ok-build_command.ensures at is) c.parse.ensures.refusal
+    if_err_weaker c.parse.result _ _ (λ fault is. subst (λ app. IsRefusalOf app (texts_of c.args.arguments.now) (shown_fault fault)) c.in_ok-build_command.ensures is) c.parse.ensures.refusal
