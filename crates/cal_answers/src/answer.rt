@@ -40,7 +40,7 @@ pub(crate) const INVALID: u8 = 1;
 pub(crate) const UNUSABLE: u8 = 2;
 
 /// The texts for standard output and standard error, and the exit status.
-#[derive(Debug, Drop)]
+#[derive(Drop)]
 pub(crate) struct Answer {
     /// The text for standard output.
     pub out: String,

@@ -7,7 +7,7 @@ use cal_lint::ProblemKind;
 use std::alloc::{AllocError, Global};
 
 /// A problem that `lint` lists unless it is listed already.
-#[derive(Debug, Drop)]
+#[derive(Drop)]
 pub(crate) struct Candidate {
     pub kind: ProblemKind,
     /// The path of the file that has the line. Without a line, the name of the timer, or the path of the file or
@@ -20,7 +20,7 @@ pub(crate) struct Candidate {
 }
 
 /// Which problems make `lint` leave out a candidate if they are listed already.
-#[derive(Clone, Copy, PartialEq, Eq, Debug)]
+#[derive(Clone, Copy, PartialEq, Eq)]
 pub(crate) enum Unless {
     /// Only the same problem. Several timers can have the same drop-in, and then its problem is found several times.
     Same,

@@ -6,7 +6,7 @@ ghost use Rattle.cal_answers.specs.declared.fault.ReadFault.TheVariants.{NoMemor
 use std::alloc::{AllocError, AllocFailed, Global};
 
 /// Why reading all that an answer depends on failed.
-#[derive(Debug, Drop)]
+#[derive(Drop)]
 pub(crate) enum ReadFault {
     /// The question can't be answered, for this reason.
     Unanswerable(String),

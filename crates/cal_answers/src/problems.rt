@@ -24,13 +24,13 @@ use cal_timers_text::{
 use std::alloc::{AllocError, Global};
 
 /// The problems that were found so far, in the order in which they are printed.
-#[derive(Debug, Drop)]
+#[derive(Drop)]
 pub(crate) struct Problems {
     list: Vec<Problem>,
 }
 
 /// A problem of a file or a timer, with all that is printed about it.
-#[derive(Debug, Drop)]
+#[derive(Drop)]
 struct Problem {
     /// The path of the file that has the problem. If the problem has no line, this can also be the name of a timer, or
     /// the path of a folder.

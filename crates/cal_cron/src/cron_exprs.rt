@@ -18,7 +18,7 @@ use cal_spec::{DateFields, Expr, Fields, Part, Slot, TimeFields};
 use std::alloc::Global;
 
 /// The calendar expressions of a crontab line. Cron runs the line when one of them elapses.
-#[derive(Debug, Drop)]
+#[derive(Drop)]
 pub struct CronExprs {
     pub first: Expr,
     /// The expression for the weekdays, if the line names both days of the month and weekdays, and cron runs it on days

@@ -14,7 +14,7 @@ use cal_bytes::first_word;
 use std::alloc::Global;
 
 /// The time fields of a crontab line.
-#[derive(Debug, Drop)]
+#[derive(Drop)]
 pub struct CronLine {
     pub minute: Vec<CronRange>,
     pub hour: Vec<CronRange>,

@@ -18,7 +18,7 @@ use cal_unit_index::{
 use std::alloc::{AllocError, Global};
 
 /// A crontab whose lines aren't parsed.
-#[derive(Debug, Drop)]
+#[derive(Drop)]
 pub struct Crontab {
     /// The path of its file, or the argument itself if lines are given as an argument.
     pub name: String,
@@ -28,7 +28,7 @@ pub struct Crontab {
 }
 
 /// Crontabs, and the files and folders that couldn't be read.
-#[derive(Debug, Drop)]
+#[derive(Drop)]
 pub struct Crontabs {
     pub crontabs: Vec<Crontab>,
     pub faults: Vec<UnitFault>,

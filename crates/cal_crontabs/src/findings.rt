@@ -16,7 +16,7 @@ use cal_spec::Expr;
 use std::alloc::{AllocError, Global};
 
 /// Something that the author of a crontab should know about one of its entries.
-#[derive(Debug, Drop)]
+#[derive(Drop)]
 pub struct CronFinding<'t> {
     /// The path of the crontab, or the argument itself if lines are given as an argument.
     pub name: &'t str,
@@ -28,7 +28,7 @@ pub struct CronFinding<'t> {
 }
 
 /// What the author of a crontab should know.
-#[derive(Clone, Copy, PartialEq, Eq, Debug)]
+#[derive(Clone, Copy, PartialEq, Eq)]
 pub enum CronFindingKind {
     /// The entry is invalid.
     Invalid(EntryFault),

@@ -23,7 +23,7 @@ const CRON_FOLDER: &str = "/etc/cron.d";
 const USER_FOLDER: &str = "/var/spool/cron/crontabs";
 
 /// Paths of files, and the folders that can't be read.
-#[derive(Debug, Drop)]
+#[derive(Drop)]
 pub(crate) struct Paths {
     pub(crate) paths: Vec<String>,
     pub(crate) faults: Vec<UnitFault>,
@@ -57,7 +57,7 @@ pub(crate) fn user_paths<T: Tree>(alloc: Global, tree: &mut T) -> Result<Vec<Str
 }
 
 /// Which names in a folder are those of crontabs.
-#[derive(Clone, Copy, PartialEq, Eq, Debug)]
+#[derive(Clone, Copy, PartialEq, Eq)]
 pub(crate) enum NameRule {
     /// Names that have only letters, digits, `_` and `-`: those of run-parts(8), as cron(8) of Debian says.
     Package,

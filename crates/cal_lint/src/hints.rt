@@ -24,7 +24,7 @@ use cal_spec::{SpecFault, read_expr};
 use std::alloc::{AllocError, Global};
 
 /// A known mistake that an invalid expression resembles.
-#[derive(Clone, Copy, PartialEq, Eq, Debug)]
+#[derive(Clone, Copy, PartialEq, Eq)]
 pub enum Mistake {
     /// An assignment, such as `OnCalendar=daily`, in place of its value.
     Assignment,
@@ -54,7 +54,7 @@ pub enum Mistake {
 }
 
 /// The known mistake that an invalid expression resembles, and what to write instead.
-#[derive(Debug, Drop)]
+#[derive(Drop)]
 pub struct Hint {
     pub mistake: Mistake,
     /// An expression to write instead, if one is known. [`crate::systemd_252`] finds no reason to reject it.

@@ -30,7 +30,7 @@ use cal_timer::KeyKind;
 use std::alloc::{AllocError, Global};
 
 /// How serious a problem is.
-#[derive(Clone, Copy, PartialEq, Eq, Debug)]
+#[derive(Clone, Copy, PartialEq, Eq)]
 pub enum ProblemKind {
     /// This project or systemd 252 rejects the expression, no usual instance makes it valid, systemd 252 stops reading
     /// the file, or the timer can't be enabled.
@@ -41,7 +41,7 @@ pub enum ProblemKind {
 }
 
 /// What is wrong with a line (systemd.syntax(7)).
-#[derive(Clone, Copy, PartialEq, Eq, Debug)]
+#[derive(Clone, Copy, PartialEq, Eq)]
 pub enum Problem {
     /// The expression or the exception is invalid, or its list is full.
     Invalid(TimerFault),
@@ -93,7 +93,7 @@ impl Problem {
 }
 
 /// A problem of a unit file, and where it is.
-#[derive(Debug, Drop)]
+#[derive(Drop)]
 pub struct Finding {
     /// The number of the line, from 1. A continued line has the number of its first physical line.
     pub line: u32,

@@ -16,14 +16,14 @@ use cal_zone::ZoneTable;
 use std::alloc::{AllocError, Global};
 
 /// The calendar expressions of a timer, and its exceptions.
-#[derive(Debug, Drop)]
+#[derive(Drop)]
 pub struct Calendar {
     lines: Vec<TimerLine>,
     exceptions: Vec<TimerLine>,
 }
 
 /// A line that is ignored because its expression or exception is invalid.
-#[derive(Clone, Copy, Debug)]
+#[derive(Clone, Copy)]
 pub struct IgnoredLine {
     /// The number of the line. Line numbers continue from file to file.
     pub number: u32,
@@ -32,7 +32,7 @@ pub struct IgnoredLine {
 }
 
 /// The calendar of a timer, and the lines that were ignored in reading it.
-#[derive(Debug, Drop)]
+#[derive(Drop)]
 pub(crate) struct CalendarLines {
     pub(crate) calendar: Calendar,
     pub(crate) ignored: Vec<IgnoredLine>,

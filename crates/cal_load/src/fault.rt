@@ -14,7 +14,7 @@ use cal_unit_index::{Reason, UnitFault};
 use std::alloc::{AllocError, AllocFailed, Global};
 
 /// Why a target can't be loaded.
-#[derive(Debug, Drop)]
+#[derive(Drop)]
 pub(crate) enum TargetLoadFault {
     /// The target can't be loaded, for this reason. Other targets still can.
     Target(TargetReason),

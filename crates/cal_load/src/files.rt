@@ -30,7 +30,7 @@ use std::alloc::{AllocError, Global};
 use std::collections::{BTreeMap, BTreeSet};
 
 /// What [`load_files`] returns: files that aren't parsed yet, and the errors about what couldn't be read.
-#[derive(Debug, Drop)]
+#[derive(Drop)]
 pub struct LoadedFiles {
     /// The files in the order of the targets, each once. Their bytes needn't be UTF-8.
     pub files: Vec<UnitText>,
@@ -111,7 +111,7 @@ fn all_files<T: Tree>(
 }
 
 /// What is at a path.
-#[derive(Clone, Copy, PartialEq, Eq, Debug)]
+#[derive(Clone, Copy, PartialEq, Eq)]
 enum Taken {
     /// A file with text, which was read.
     Read,

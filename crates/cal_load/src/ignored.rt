@@ -22,7 +22,7 @@ use cal_unit_index::{UnitText, has_percent, last_part};
 use std::alloc::{AllocError, Global};
 
 /// Why systemd ignores a setting of a timer.
-#[derive(Clone, Copy, Debug)]
+#[derive(Clone, Copy)]
 pub enum WhyIgnored {
     /// With its specifiers filled in, the value isn't valid for a setting of this kind.
     BadValue(KeyKind),
@@ -33,7 +33,7 @@ pub enum WhyIgnored {
 }
 
 /// A setting of a timer that systemd ignores.
-#[derive(Clone, Copy, Debug)]
+#[derive(Clone, Copy)]
 pub struct IgnoredSetting {
     /// The number of the line. Line numbers continue from file to file.
     pub number: u32,

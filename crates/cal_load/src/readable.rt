@@ -18,7 +18,7 @@ use cal_timer::LogicalLine;
 use std::alloc::{AllocError, Global};
 
 /// Why systemd stops reading a file.
-#[derive(Clone, Copy, Debug, PartialEq, Eq)]
+#[derive(Clone, Copy, PartialEq, Eq)]
 pub enum BrokenReason {
     /// A line that isn't a comment isn't valid UTF-8, or has a noncharacter of Unicode, such as U+FFFE.
     NotUtf8,
@@ -30,7 +30,7 @@ pub enum BrokenReason {
 }
 
 /// The line at which systemd stops reading a file.
-#[derive(Clone, Copy, Debug)]
+#[derive(Clone, Copy)]
 pub struct BrokenLine {
     /// The number of the line. A continued line has the number of its first physical line. Line numbers continue from
     /// file to file.

@@ -12,7 +12,7 @@ use cal_unit_index::{UnitKind, stem_base, unit_kind_of, without_suffix};
 use std::alloc::{AllocError, Global};
 
 /// A value with its specifiers filled in.
-#[derive(Debug, Drop)]
+#[derive(Drop)]
 pub(crate) enum Filled {
     /// The text that the value stands for.
     Text(String),
@@ -24,7 +24,7 @@ pub(crate) enum Filled {
 }
 
 /// A part of a value.
-#[derive(Clone, Copy, Debug)]
+#[derive(Clone, Copy)]
 enum Part {
     /// A byte that stands for itself.
     Byte(u8),
@@ -33,7 +33,7 @@ enum Part {
 }
 
 /// Whether the bytes of a [`Draft`] are what the parts of the value so far stand for.
-#[derive(Clone, Copy, Debug)]
+#[derive(Clone, Copy)]
 enum State {
     /// The bytes are this text.
     Text,

@@ -11,7 +11,7 @@ use cal_unit_index::Reason;
 use cal_zone_files::FileReason;
 
 /// Why a timer, a file, a folder or an expression can't be loaded.
-#[derive(Debug, Drop)]
+#[derive(Drop)]
 pub enum TargetReason {
     /// There is no such unit, or nothing is at the path.
     NotFound,
@@ -38,7 +38,7 @@ pub enum TargetReason {
 }
 
 /// The error that a timer, an expression, a file or a folder can't be loaded.
-#[derive(Debug, Drop)]
+#[derive(Drop)]
 pub struct TargetFault {
     /// What the error is about: a unit or expression as it was given, or the path that was given, without slashes at
     /// its end. If this path is a folder, the target can also be the path of a file in it. If no target was given, it

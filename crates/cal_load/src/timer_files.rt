@@ -13,7 +13,7 @@ use std::alloc::Global;
 
 /// The files of a timer, the lines with expressions and exceptions that are ignored, and the lines at which systemd
 /// stops reading.
-#[derive(Debug, Drop)]
+#[derive(Drop)]
 pub struct TimerFiles {
     /// The files that were read: first the timer's own file, and then its drop-ins.
     pub texts: Vec<UnitText>,

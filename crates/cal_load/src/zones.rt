@@ -23,7 +23,7 @@ use cal_zone_files::{FileReason, ZonesFault, load_zone, load_zones};
 use std::alloc::{AllocError, Global};
 
 /// A line with an expression or an exception that is ignored because the zone that it names can't be used.
-#[derive(Debug, Drop)]
+#[derive(Drop)]
 pub struct UnusableZone {
     /// The number of the line. Line numbers continue from file to file.
     pub number: u32,

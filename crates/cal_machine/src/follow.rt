@@ -15,7 +15,7 @@ use crate::tree::{Entry, Names, Tree, TreeFault, Unreadable};
 use std::alloc::Global;
 
 /// Whether a link at the end of a path is followed.
-#[derive(Clone, Copy, PartialEq, Eq, Debug)]
+#[derive(Clone, Copy, PartialEq, Eq)]
 pub enum Last {
     /// The link is followed, like all links on the way.
     Followed,
@@ -24,7 +24,7 @@ pub enum Last {
 }
 
 /// Where a path leads.
-#[derive(Debug, Drop)]
+#[derive(Drop)]
 pub struct Place {
     /// The path of the place. No folder on it is a link. The root is the empty path, and a relative path starts with
     /// `.`, the folder in which the program runs.
@@ -35,7 +35,7 @@ pub struct Place {
 }
 
 /// What can be read at a path.
-#[derive(Debug, Drop)]
+#[derive(Drop)]
 pub enum Content {
     /// Nothing is there, or the path leads through something that isn't a folder.
     Nothing,

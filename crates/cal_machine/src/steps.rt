@@ -10,7 +10,7 @@ use crate::tree::Entry;
 use std::alloc::{AllocError, Global};
 
 /// One step along a path.
-#[derive(Debug, Drop)]
+#[derive(Drop)]
 pub(crate) enum Step {
     /// The path goes on from this folder, whose own path has no links, with these parts.
     On(String, Vec<String>),

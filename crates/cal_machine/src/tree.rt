@@ -11,7 +11,7 @@ use std::alloc::{AllocError, AllocFailed, Global};
 pub const FILE_BYTES: usize = 1_048_577;
 
 /// Why something can't be read. A [`Tree`] treats this as a fact about the machine: asking again gives the same error.
-#[derive(Clone, Copy, PartialEq, Eq, Debug)]
+#[derive(Clone, Copy, PartialEq, Eq)]
 pub enum Unreadable {
     /// A file can't be opened, for example because it doesn't exist or opening it isn't permitted.
     Unopened,
@@ -22,7 +22,7 @@ pub enum Unreadable {
 }
 
 /// Why a method of a [`Tree`] or a [`crate::System`] failed.
-#[derive(Clone, Copy, PartialEq, Eq, Debug)]
+#[derive(Clone, Copy, PartialEq, Eq)]
 pub enum TreeFault {
     /// The folder, path, file or variable can't be read, for this reason.
     Unreadable(Unreadable),
@@ -47,7 +47,7 @@ impl<T: Drop> From<AllocFailed<T>> for TreeFault {
 }
 
 /// What is at a path.
-#[derive(Debug, Drop)]
+#[derive(Drop)]
 pub enum Entry {
     /// Nothing is at the path.
     Missing,
@@ -65,7 +65,7 @@ pub enum Entry {
 }
 
 /// The names in a folder.
-#[derive(Debug, Drop)]
+#[derive(Drop)]
 pub struct Names {
     /// The names, in any order.
     pub names: Vec<String>,

@@ -6,7 +6,7 @@ ghost use Rattle.cal_options.specs.declared.argument_fault.ArgumentFault.TheVari
 use std::alloc::AllocError;
 
 /// Why arguments can't be parsed: they are invalid, they ask for help or the version, or allocation failed.
-#[derive(Debug, Drop)]
+#[derive(Drop)]
 pub enum ArgumentFault {
     /// The arguments are invalid. The text is for standard error: it says what is wrong and how to get help, and ends
     /// with a line feed.

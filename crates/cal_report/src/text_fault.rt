@@ -8,7 +8,7 @@ use cal_spec::SpecFault;
 use cal_stamp::StampFault;
 
 /// Why a text gets no report: it is rejected, or memory ran out.
-#[derive(Clone, Copy, PartialEq, Eq, Debug)]
+#[derive(Clone, Copy, PartialEq, Eq)]
 pub enum TextFault {
     /// Not a valid calendar expression.
     Spec(SpecFault),

@@ -30,7 +30,7 @@ pub struct TimerPlan<'a> {
 }
 
 /// Why a timer file gets no report: it is rejected, or memory ran out.
-#[derive(Clone, Copy, PartialEq, Eq, Debug)]
+#[derive(Clone, Copy, PartialEq, Eq)]
 pub enum TimerPlanFault {
     /// Reading the file failed, the file is too large, or it isn't a valid timer file.
     Timer(TimerFault),

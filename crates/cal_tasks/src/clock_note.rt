@@ -3,7 +3,7 @@
 use cal_load::LoadedTimer;
 
 /// What a clock change does to a local time.
-#[derive(Clone, Copy, PartialEq, Eq, PartialOrd, Ord, Debug)]
+#[derive(Clone, Copy, PartialEq, Eq, PartialOrd, Ord)]
 pub enum ClockChange {
     /// Clocks skip the local time, so nothing elapses then.
     Skipped,
@@ -12,7 +12,7 @@ pub enum ClockChange {
 }
 
 /// A local time that an expression of a timer matches and that a clock change skips or repeats.
-#[derive(Clone, Copy, PartialEq, Eq, PartialOrd, Ord, Debug)]
+#[derive(Clone, Copy, PartialEq, Eq, PartialOrd, Ord)]
 pub struct ClockNote {
     /// The local time, in seconds since 1970-01-01 00:00:00 on the clock of the zone.
     pub local: i64,
@@ -40,7 +40,7 @@ impl ClockNote {
 }
 
 /// The local times of a timer that the next clock changes skip or repeat.
-#[derive(Debug, Drop)]
+#[derive(Drop)]
 pub struct ClockNotes {
     /// The earliest notes about such local times, at most 16, sorted by local time.
     pub first: Vec<ClockNote>,

@@ -10,7 +10,7 @@ use cal_rising::{NoMemory, Rising};
 use std::alloc::Global;
 
 /// The next elapse of each of several timers.
-#[derive(Debug, Drop)]
+#[derive(Drop)]
 pub struct NextOfAll {
     /// The next elapse of each timer that has one, soonest first. Timers that elapse at the same instant are in the
     /// order given.

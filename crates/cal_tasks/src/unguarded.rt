@@ -8,7 +8,7 @@ use cal_load::LoadedTimer;
 
 /// A timer that has exceptions, and starts a service that doesn't run `calendar-timers due` as a condition, so that
 /// systemd starts the service at exceptions, too (systemd.service(5), ExecCondition=).
-#[derive(Debug, Drop)]
+#[derive(Drop)]
 pub struct UnguardedTimer {
     /// The timer's [`LoadedTimer::name`].
     pub name: String,

@@ -4,14 +4,14 @@ ghost use Rattle.std.specs.Option.{ForSome};
 ghost use Rattle.cal_zone.specs.rules.Instant.{IsInstant};
 
 /// What the arguments ask.
-#[derive(Debug, Drop)]
+#[derive(Drop)]
 pub struct Command {
     pub question: Question,
     pub options: Options,
 }
 
 /// A question, with what its verb needs.
-#[derive(Debug, Drop)]
+#[derive(Drop)]
 pub enum Question {
     /// When timers elapse next. `timers` are units, files and folders. If there are none, the question is about the
     /// units that other units start or, if `is_all` (`--all`), about all units. If `is_cron` (`--cron`), it is also about
@@ -69,7 +69,7 @@ pub enum Question {
 }
 
 /// The options that most verbs share.
-#[derive(Debug, Drop)]
+#[derive(Drop)]
 pub struct Options {
     /// The value of `--zone`, or `UTC` if `--utc` is given. The value isn't empty, and its form isn't checked. If
     /// neither option is given, this is `None`: the local zone is the machine's or, for `next`, that of `TZ` if it is

@@ -12,7 +12,7 @@ use cal_timers_report::{Emphasis, Style, push_blanks, push_printable, push_times
 use std::alloc::{AllocError, Global};
 
 /// How many problems `lint` found.
-#[derive(Clone, Copy, PartialEq, Eq, Debug)]
+#[derive(Clone, Copy, PartialEq, Eq)]
 pub struct ProblemCounts {
     pub errors: usize,
     pub warnings: usize,

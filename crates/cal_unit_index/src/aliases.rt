@@ -18,7 +18,7 @@ use std::alloc::{AllocError, Global};
 use std::collections::BTreeSet;
 
 /// An alias of a unit.
-#[derive(Debug, Drop)]
+#[derive(Drop)]
 pub(crate) struct Alias {
     pub stem: String,
     /// The stem under which the unit's file is found, which can be a template's.

@@ -12,7 +12,7 @@ use cal_machine::{Entry, Last, Tree, TreeFault, after_prefix, find_place, look_a
 use std::alloc::{AllocError, Global};
 
 /// Where the name of a unit leads.
-#[derive(Debug, Drop)]
+#[derive(Drop)]
 pub(crate) enum Destination {
     /// To the file of the unit with this name. The file is at this path, and can be a link.
     File(String),

@@ -7,7 +7,7 @@ use std::alloc::{AllocError, Global};
 use std::collections::BTreeMap;
 
 /// A file in a drop-in folder.
-#[derive(Debug, Drop)]
+#[derive(Drop)]
 pub(crate) struct DropIn {
     /// The file's name in the folder.
     pub name: String,

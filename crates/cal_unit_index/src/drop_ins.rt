@@ -17,7 +17,7 @@ use cal_machine::{Names, Tree, TreeFault, Unreadable, names_at};
 use std::alloc::{AllocError, Global};
 
 /// The drop-ins of a unit.
-#[derive(Debug, Drop)]
+#[derive(Drop)]
 pub struct DropIns {
     /// The paths of the drop-ins, in the order in which they are read.
     pub paths: Vec<String>,

@@ -7,7 +7,7 @@ use cal_machine::Unreadable;
 use std::alloc::{AllocError, Global};
 
 /// Why a path can't be used.
-#[derive(Clone, Copy, PartialEq, Eq, Debug)]
+#[derive(Clone, Copy, PartialEq, Eq)]
 pub enum Reason {
     /// The path can't be read, or it is a link whose target can't be followed.
     Unreadable(Unreadable),
@@ -20,7 +20,7 @@ pub enum Reason {
 }
 
 /// A path that can't be used, and why.
-#[derive(Debug, Drop)]
+#[derive(Drop)]
 pub struct UnitFault {
     /// The path of a folder, a file or a link.
     pub path: String,

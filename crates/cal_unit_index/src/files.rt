@@ -15,7 +15,7 @@ use std::alloc::{AllocError, Global};
 const FILE_LIMIT: usize = FILE_BYTES - 1;
 
 /// A file of a unit.
-#[derive(Debug, Drop)]
+#[derive(Drop)]
 pub struct UnitText {
     /// The path at which it was read.
     pub path: String,
@@ -24,7 +24,7 @@ pub struct UnitText {
 }
 
 /// What is at the path of a file of a unit.
-#[derive(Debug, Drop)]
+#[derive(Drop)]
 pub enum FileRead {
     /// An empty file or a device, or a link to one: it masks the unit.
     Mask,
@@ -35,7 +35,7 @@ pub enum FileRead {
 }
 
 /// The drop-ins of a unit that were read, and errors about those that couldn't be read.
-#[derive(Debug, Drop)]
+#[derive(Drop)]
 pub struct DropInTexts {
     /// The drop-ins that were read, in their order. Empty files, folders, devices and links to nothing are skipped.
     pub texts: Vec<UnitText>,

@@ -16,7 +16,7 @@ use std::alloc::{AllocError, Global};
 use std::collections::{BTreeMap, BTreeSet};
 
 /// An index of what the folders of a search path have.
-#[derive(Debug, Drop)]
+#[derive(Drop)]
 pub struct UnitIndex {
     pub(crate) folders: Vec<SearchFolder>,
     pub(crate) destinations: BTreeMap<String, Destination>,
@@ -25,7 +25,7 @@ pub struct UnitIndex {
 }
 
 /// A folder of the search path.
-#[derive(Debug, Drop)]
+#[derive(Drop)]
 pub struct SearchFolder {
     pub path: String,
     pub(crate) names: BTreeSet<String>,

@@ -10,7 +10,7 @@ use std::alloc::{AllocError, Global};
 
 /// The variables of the environment that count for the search path of a user's manager. A variable that isn't set is
 /// `None`, and one that is set but empty is an empty text.
-#[derive(Clone, Copy, Debug)]
+#[derive(Clone, Copy)]
 pub struct UserVariables<'a> {
     /// `HOME`, the user's home.
     pub home: Option<&'a str>,

@@ -26,7 +26,7 @@ use std::alloc::{AllocError, Global};
 use std::collections::{BTreeMap, BTreeSet};
 
 /// The timers that other units start.
-#[derive(Debug, Drop)]
+#[derive(Drop)]
 pub struct Started {
     /// The stems of the timers, which need not exist.
     pub stems: BTreeSet<String>,

@@ -12,7 +12,7 @@ use crate::unit_name::{instance_of, is_template};
 use std::alloc::{AllocError, Global};
 
 /// The file of a unit, and the names by which it was found.
-#[derive(Debug, Drop)]
+#[derive(Drop)]
 pub struct UnitFile {
     /// The path of the file in a folder of the search path. It can be a link to a file elsewhere, and can mask the
     /// unit.
@@ -25,7 +25,7 @@ pub struct UnitFile {
 }
 
 /// What is found under the name of a unit.
-#[derive(Debug, Drop)]
+#[derive(Drop)]
 pub enum Unit {
     /// No file. If the name is that of an instance, its template has no file, either.
     NotFound,

@@ -35,7 +35,7 @@ use std::alloc::Global;
 use std::convert::AsStr;
 
 /// How the work ended.
-#[derive(Clone, Copy, PartialEq, Eq, Debug)]
+#[derive(Clone, Copy, PartialEq, Eq)]
 pub struct Ended {
     /// The exit status: 0, 1 or 2, as [`work`] says.
     pub status: u8,

@@ -5,7 +5,7 @@ ghost use Rattle.std.specs.Prelude.{Some, false};
 use cal_bytes::Source;
 
 /// The bytes of a file that has been read, as a [`Source`]. Reading from it can't fail.
-#[derive(Clone, Copy, Debug)]
+#[derive(Clone, Copy)]
 pub(crate) struct FileBytes<'b> {
     /// The bytes still to come.
     pub(crate) left: &'b [u8],

@@ -11,7 +11,7 @@ use cal_request::{RunFault, Status};
 use cal_zone::{LoadFault, ZoneFault};
 
 /// Why the program stops before everything is done.
-#[derive(Debug, Drop)]
+#[derive(Drop)]
 pub enum Stop {
     /// The arguments are invalid, or ask only for help or the version, or memory ran out while they were parsed.
     Command(CommandFault),
@@ -58,7 +58,7 @@ impl Stop {
 }
 
 /// Where a stop is reported.
-#[derive(Clone, Copy, PartialEq, Eq, Debug)]
+#[derive(Clone, Copy, PartialEq, Eq)]
 pub(crate) enum Outlet {
     /// Standard output, for help.
     OnOut,

@@ -7,7 +7,7 @@ use cal_zone::LoadFault;
 use std::alloc::{AllocError, AllocFailed};
 
 /// What decides which zone to use.
-#[derive(Clone, Copy, PartialEq, Eq, Debug)]
+#[derive(Clone, Copy, PartialEq, Eq)]
 pub enum Origin {
     /// The option `--zone` or `--in`.
     Argument,
@@ -16,7 +16,7 @@ pub enum Origin {
 }
 
 /// Why the file of a zone can't be used.
-#[derive(Clone, Copy, PartialEq, Eq, Debug)]
+#[derive(Clone, Copy, PartialEq, Eq)]
 pub enum FileReason {
     /// There is no such file.
     NotFound,
@@ -25,7 +25,7 @@ pub enum FileReason {
 }
 
 /// Why the zone to use can't be determined, or why a zone file can't be loaded.
-#[derive(Debug, Drop)]
+#[derive(Drop)]
 pub enum ZonesFault {
     /// The text of this option or variable has none of the forms that name a zone.
     Unclear(Origin),
