@@ -35,7 +35,6 @@ pub fn stops_at_midnight(at: Present<'_>, timer: &LoadedTimer, line: &TimerLine)
 }
 
 /// Returns what [`stops_at_midnight`] returns for the expression on `line`, with the zones of `setting`.
-#[tactic(auto, unfolding(crate::specs::rules::Midnight::stops_at_midnight))]
 pub(crate) fn stops_in(setting: Setting<'_>, line: &TimerLine) -> bool
     ensures { result ≡ stops_at_midnight (setting_seen setting.entry) setting.entry.now.secs (shown line.now) }
 {
