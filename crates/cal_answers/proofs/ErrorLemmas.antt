@@ -2,7 +2,7 @@
 use Rattle.std.proofs.Common.{◌≡◌, ◌∙◌, ℕ, ◌+◌, ◌<◌, Global, List, [], ◌∷◌, ◌++◌, String, ap, get_or, length, map, refl, string_bytes, sym, take}
 use Rattle.std.proofs.lemmas.List.{flat_map_more, map-append, take_more}
 use Rattle.std.specs.List.{flat_map}
-use Rattle.cal_answers.proofs.LoopLemmas.{flat_more_by}
+use Rattle.cal_bytes.proofs.General.{flat_more_by}
 use Rattle.cal_answers.specs.rules.ErrorText.{with_line, with_lines}
 
 -- adding the lines of `one ++ other` adds those of `one`, and then those of `other`

@@ -8,7 +8,6 @@ mod LintLemmas
 mod LintOutputLemmas
 mod LintPlaceLemmas
 mod LocalClockLemmas
-mod LoopLemmas
 mod RangeZoneLemmas
 pub mod MachinePathLemmas
 mod RunLemmas

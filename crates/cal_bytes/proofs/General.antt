@@ -3,8 +3,8 @@
 use Rattle.std.proofs.Common.{Bool, List, None, Option, Some, [], ap, arith, cond, drop, false, int_lt, length, nat_le, refl, slice_get, suc, sym, true, zero, ℕ, ℤ, ◌++◌, ◌+ℤ◌, ◌<ℤ◌, ◌<◌, ◌∙◌, ◌∷◌, ◌≡◌, ◌≤ℤ◌, add-one, drop-cons, get_or, leb, map, max, nat_eq, nat_lt, negsuc, not, of_z, pos, reverse, subst, take, to_z, unsigned_abs, w64, ◌&&◌, ◌||◌, ◌+◌, ◌-◌, ◌==◌, ◌^◌, ◌≤◌}
 use Rattle.std.proofs.lemmas.Bool.{and_from, and_parts, leb-true, ltb-false, ltb-true, not-true}
 use Rattle.std.proofs.lemmas.Int.{ints, to_z_pos}
-use Rattle.std.proofs.lemmas.List.{length-append, drop-append-le, drop_all, get_or-reverse, reverse-append}
-use Rattle.std.proofs.lemmas.List.Folds.{list_all-append}
+use Rattle.std.proofs.lemmas.List.{length-append, drop-append-le, drop_all, flat_map_more, get_or-reverse, reverse-append, take_more}
+use Rattle.std.proofs.lemmas.List.Folds.{flat_map-map, list_all-append}
 use Rattle.std.specs.Char.{is_ascii_digit, digit_value}
 use Rattle.std.specs.List.{join_with_byte, list_all, list_any, onto_first, slice_split, AllByRecursion, after_last, flat_map, position, position_or_len, prefix_len, suffix_len}
 use Rattle.std.specs.Ordering.{int_cmp}
@@ -181,6 +181,21 @@ flat_map-drop f i xs d h = rw (add-one, drop-cons xs i d h) refl
 -- joined texts of the items from index `i + 1` on
 pub item_first : {A : Type 0} (f : A → List ℕ) (i : ℕ) (xs : List A) (d : A) {piece : List ℕ} → i < length xs → piece ≡ f (get_or xs i d) → flat_map f (drop i xs) ≡ piece ++ flat_map f (drop (i + 1) xs)
 item_first f i xs d h is = flat_map-drop f i xs d h ∙ ap (λ first. first ++ flat_map f (drop (i + 1) xs)) (sym is)
+
+-- one step of a loop: if what `f` returns for the first `i` items was appended, and then what it returns for the next
+-- item, then what it returns for the first `i + 1` was appended
+pub flat_more : {X A : Type 0} (f : X → List A) (xs : List X) (i : ℕ) (x : X) (old now new : List A) → i < length xs → x ≡ get_or xs i x
+    → now ≡ old ++ flat_map f (take i xs) → new ≡ now ++ f x → new ≡ old ++ flat_map f (take (i + 1) xs)
+flat_more f xs i x old now new within is was more =
+    let all : take i xs ++ x ∷ [] ≡ take (i + 1) xs = ap (λ y. take i xs ++ y ∷ []) is ∙ sym (take_more xs i x within) in
+    more ∙ ap (λ ys. ys ++ f x) was ∙ flat_map_more f old (take i xs) x ∙ ap (λ ys. old ++ flat_map f ys) all
+
+-- `flat_more` for items seen through `view`
+pub flat_more_by : {X Y A : Type 0} (f : Y → List A) (view : X → Y) (xs : List X) (i : ℕ) (x : X) (old now new : List A) → i < length xs → x ≡ get_or xs i x
+    → now ≡ old ++ flat_map f (map view (take i xs)) → new ≡ now ++ f (view x) → new ≡ old ++ flat_map f (map view (take (i + 1) xs))
+flat_more_by f view xs i x old now new within is was more =
+    flat_more (λ y. f (view y)) xs i x old now new within is (was ∙ ap (λ ys. old ++ ys) (flat_map-map f view (take i xs))) more
+    ∙ ap (λ ys. old ++ ys) (sym (flat_map-map f view (take (i + 1) xs)))
 
 pub drop_none : (members : List ℤ) → None ≡ slice_get members 0 → members ≡ drop 1 members
 drop_none [] h = refl

@@ -1,11 +1,11 @@
 -- Lemmas on the entries in a list of lines, and on texts that contain another text.
 use Rattle.std.proofs.Common.{◌≡◌, ◌∙◌, ◌||◌, ℕ, Bool, true, false, List, [], ◌∷◌, ◌++◌, Option, None, ap, append-nil, append_assoc, drop, length, map, nat_eq, refl, sym}
 use Rattle.std.proofs.lemmas.Bool.Decides.{Decides-eqb}
-use Rattle.std.proofs.lemmas.List.{flat_map_more, map-append}
+use Rattle.std.proofs.lemmas.List.{map-append}
 use Rattle.std.proofs.lemmas.Slice.Eq.{starts_is}
 use Rattle.std.proofs.lemmas.Str.Pattern.{contains_text}
 use Rattle.std.specs.Bool.{MatchBool}
-use Rattle.std.specs.List.{flat_map, starts_with}
+use Rattle.std.specs.List.{starts_with}
 use Rattle.std.specs.Str.Iter.{HasSubslice}
 use Rattle.std.specs.Str.Pattern.{FindsText, HasMatch}
 use Rattle.cal_cron.specs.rules.CrontabLines.{Line}
@@ -44,13 +44,6 @@ entry_added crontab view xs x all cron_tz start now new same was above more =
     ∙ ap (λ z. start ++ (entries_below crontab None (map view xs) ++ entries_at crontab z (view x))) above
     ∙ ap (λ l. start ++ l)
     (sym (entries_more crontab None (map view xs) (view x)) ∙ ap (entries_below crontab None) (sym (map-append view xs (x ∷ [])) ∙ ap (map view) same))
-
--- a loop's step: what one more element adds is at the end
-pub flat_added : {X Y A : Type 0} (f : Y → List A) (view : X → Y) (xs : List X) (x : X) (all : List X) (start now new : List A)
-    → xs ++ x ∷ [] ≡ all → now ≡ start ++ flat_map f (map view xs) → new ≡ now ++ f (view x) → new ≡ start ++ flat_map f (map view all)
-flat_added f view xs x all start now new same was more =
-    more ∙ ap (λ l. l ++ f (view x)) was ∙ flat_map_more f start (map view xs) (view x)
-    ∙ ap (λ ys. start ++ flat_map f ys) (sym (map-append view xs (x ∷ [])) ∙ ap (map view) same)
 
 -- a loop's step: the value of `CRON_TZ` below one more line
 pub zone_added : {X : Type 0} (view : X → Line) (xs : List X) (x : X) (all : List X) (cron_tz below : Option (List ℕ))

@@ -1,11 +1,10 @@
 -- What one more item adds to the sets and lists of the loops that find which timers are started.
-use Rattle.std.proofs.Common.{◌≡◌, ◌∙◌, ℕ, List, [], ◌∷◌, ◌++◌, All, ap, append-nil, map, refl, string_bytes, sym}
+use Rattle.std.proofs.Common.{◌≡◌, ◌∙◌, ℕ, List, [], ◌∷◌, ◌++◌, All, ap, map, refl, string_bytes, sym}
 use Rattle.std.specs.BTreeSet.{insert_key}
 use Rattle.std.specs.Cmp.Lexicographic.{slice_cmp}
 use Rattle.std.specs.List.{flat_map}
 use Rattle.std.specs.Ordering.{nat_cmp}
-use Rattle.std.proofs.lemmas.Grind.{flat_map-append}
-use Rattle.std.proofs.lemmas.List.{map-append}
+use Rattle.std.proofs.lemmas.List.{flat_map_more, map-append}
 use Rattle.std.proofs.lemmas.List.Elements.{All-head, All-tail}
 use Rattle.std.proofs.lemmas.List.Sums.{fold-append}
 use Rattle.cal_machine.specs.rules.Machine.{Machine}
@@ -21,12 +20,9 @@ each_listing machine F (folder ∷ folders) all =
     ap (λ names. F names ++ flat_map (λ folder. F (map string_bytes folder.names.keys)) folders) (All-head (IsListing machine) folder folders all)
     ∙ ap (λ rest. F (listed machine (path_of folder)) ++ rest) (each_listing machine F folders (All-tail (IsListing machine) folder folders all))
 
-flat_more : {X Y Z : Type 0} (F : Y → List Z) (view : X → Y) (xs : List X) (x : X)
+added_last : {X Y Z : Type 0} (F : Y → List Z) (view : X → Y) (xs : List X) (x : X)
     → flat_map F (map view xs) ++ F (view x) ≡ flat_map F (map view (xs ++ x ∷ []))
-flat_more F view xs x = sym (
-    ap (flat_map F) (map-append view xs (x ∷ []))
-    ∙ flat_map-append F (map view xs) (view x ∷ [])
-    ∙ ap (λ ys. flat_map F (map view xs) ++ ys) (append-nil (F (view x))))
+added_last F view xs x = flat_map_more F [] (map view xs) (view x) ∙ ap (flat_map F) (sym (map-append view xs (x ∷ [])))
 
 -- if `before` is `start` with the texts `xs`, and `after` also has the texts `ys`, then `after` is `start` with the
 -- texts `xs` and `ys`
@@ -41,10 +37,10 @@ pub texts_of_more : {X Y : Type 0} (F : Y → List (List ℕ)) (view : X → Y) 
     → after ≡ with_texts before (F (view x)) → before ≡ with_texts start (flat_map F (map view xs))
     → after ≡ with_texts start (flat_map F (map view (xs ++ x ∷ [])))
 texts_of_more F view start before after xs x added held =
-    texts_more start before after (flat_map F (map view xs)) (F (view x)) added held ∙ ap (with_texts start) (flat_more F view xs x)
+    texts_more start before after (flat_map F (map view xs)) (F (view x)) added held ∙ ap (with_texts start) (added_last F view xs x)
 
 -- if `before` has the items that `F` returns for `xs`, and `after` also has those that it returns for `x`, then `after`
 -- has the items for `xs` and `x`
 pub items_of_more : {X Y Z : Type 0} (F : Y → List Z) (view : X → Y) (before after : List Z) (xs : List X) (x : X)
     → after ≡ before ++ F (view x) → before ≡ flat_map F (map view xs) → after ≡ flat_map F (map view (xs ++ x ∷ []))
-items_of_more F view before after xs x added held = added ∙ ap (λ ys. ys ++ F (view x)) held ∙ flat_more F view xs x
+items_of_more F view before after xs x added held = added ∙ ap (λ ys. ys ++ F (view x)) held ∙ added_last F view xs x

@@ -1,6 +1,6 @@
 use Rattle.std.proofs.Common.{◌++◌, arith, codes}
 use Rattle.cal_timers_text.specs.rules.ErrorLines.{fault_line}
-use Rattle.cal_answers.proofs.LoopLemmas.{flat_more}
+use Rattle.cal_bytes.proofs.General.{flat_more}
 use Rattle.cal_answers.proofs.answer.push_fault_lines.Goals as goal
 
 pub loop-fault-preserved : goal.loop-fault-preserved

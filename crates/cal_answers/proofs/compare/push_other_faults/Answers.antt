@@ -1,6 +1,6 @@
 use Rattle.std.proofs.Common.{arith}
 use Rattle.cal_answers.specs.rules.ErrorText.{line_unless}
-use Rattle.cal_answers.proofs.LoopLemmas.{flat_more}
+use Rattle.cal_bytes.proofs.General.{flat_more}
 use Rattle.cal_answers.proofs.compare.push_other_faults.Goals as goal
 
 pub loop-fault-preserved : goal.loop-fault-preserved

@@ -1,6 +1,6 @@
 use Rattle.std.proofs.Common.{arith}
 use Rattle.cal_timers_text.specs.rules.ErrorLines.{unread_words}
-use Rattle.cal_answers.proofs.LoopLemmas.{flat_more_by}
+use Rattle.cal_bytes.proofs.General.{flat_more_by}
 use Rattle.cal_answers.specs.rules.LintTimers.{unread_error}
 use Rattle.cal_answers.proofs.lint.add_unread.Goals as goal
 

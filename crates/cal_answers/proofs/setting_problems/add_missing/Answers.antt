@@ -1,5 +1,5 @@
 use Rattle.std.proofs.Common.{◌∙◌, ◌++◌, ap, arith, map}
-use Rattle.cal_answers.proofs.LoopLemmas.{flat_more}
+use Rattle.cal_bytes.proofs.General.{flat_more}
 use Rattle.cal_answers.specs.rules.LintCandidates.{shown_candidate}
 use Rattle.cal_answers.specs.rules.LintTimers.{missing_error, missing_unit}
 use Rattle.cal_answers.proofs.setting_problems.add_missing.Goals as goal

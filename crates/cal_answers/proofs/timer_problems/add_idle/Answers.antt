@@ -1,5 +1,5 @@
 use Rattle.std.proofs.Common.{arith}
-use Rattle.cal_answers.proofs.LoopLemmas.{flat_more}
+use Rattle.cal_bytes.proofs.General.{flat_more}
 use Rattle.cal_answers.specs.rules.LintTimers.{idle_of}
 use Rattle.cal_answers.proofs.timer_problems.add_idle.Goals as goal
 

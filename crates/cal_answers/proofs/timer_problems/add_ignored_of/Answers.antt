@@ -1,5 +1,5 @@
 use Rattle.std.proofs.Common.{◌∙◌, ◌++◌, ℕ, List, ap, arith, map}
-use Rattle.cal_answers.proofs.LoopLemmas.{flat_more}
+use Rattle.cal_bytes.proofs.General.{flat_more}
 use Rattle.cal_answers.specs.rules.LintCandidates.{shown_candidate}
 use Rattle.cal_answers.specs.rules.LintTimers.{ignored_in, ignored_of}
 use Rattle.cal_answers.proofs.timer_problems.add_ignored_of.Goals as goal

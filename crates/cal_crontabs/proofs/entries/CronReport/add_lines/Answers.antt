@@ -1,10 +1,11 @@
 use Rattle.std.proofs.Common.{◌≡◌, ◌∙◌, ◌+◌, ◌++◌, ◌∷◌, [], ap, append-nil, arith, map, refl, string_bytes, sym, take}
 use Rattle.std.proofs.lemmas.List.{take_all, take_more}
+use Rattle.cal_bytes.proofs.General.{flat_more_by}
 use Rattle.cal_cron.specs.computed.CrontabViews.{line_shown}
 use Rattle.cal_crontabs.specs.rules.Crontabs.{shown_crontab}
 use Rattle.cal_crontabs.specs.rules.Entries.{entries_below, entries_in, entry_seen}
 use Rattle.cal_crontabs.specs.rules.ErrorLines.{error_lines_at, error_lines_in}
-use Rattle.cal_crontabs.proofs.EntryLemmas.{entry_added, flat_added, zone_added, zone_below}
+use Rattle.cal_crontabs.proofs.EntryLemmas.{entry_added, zone_added, zone_below}
 use Rattle.cal_crontabs.proofs.entries.CronReport.add_lines.Goals as goal
 
 pub loop-line-init : goal.loop-line-init
@@ -19,7 +20,7 @@ loop-line-preserved c =
     let line = c.line-item.result in
     let same : take i lines ++ line ∷ [] ≡ take (i + 1) lines = ap (λ one. take i lines ++ one ∷ []) c.line-item.is ∙ sym (take_more lines i line c.loop-line-test.true) in (
       entry_added crontab line_shown (take i lines) line (take (i + 1) lines) _ _ _ _ same c.loop-line.invariant.0 c.loop-line.invariant.2 c.in_ok-add_line.ensures.entries,
-      flat_added (error_lines_at crontab) line_shown (take i lines) line (take (i + 1) lines) _ _ _ same c.loop-line.invariant.1 c.in_ok-add_line.ensures.errors,
+      flat_more_by (error_lines_at crontab) line_shown lines i line _ _ _ c.loop-line-test.true c.line-item.is c.loop-line.invariant.1 c.in_ok-add_line.ensures.errors,
       zone_added line_shown (take i lines) line (take (i + 1) lines) _ _ same c.loop-line.invariant.2 c.zone_after-below.ensures,
     )
 
