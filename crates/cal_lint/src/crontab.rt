@@ -1,13 +1,14 @@
 //! Converting the five fields of a crontab to a calendar expression (crontab(5)).
 
-ghost use Rattle.std.specs.Prelude.{◌≡◌, IfOk, IfSome, string_bytes};
+ghost use Rattle.std.specs.Prelude.{◌≡◌, IfOk, IfSome, Ok, string_bytes};
 ghost use Rattle.std.specs.List.{list_all};
 ghost use Rattle.std.specs.Option.{is_some, option_map};
 ghost use Rattle.cal_bytes.specs.rules.Separators.{words};
-ghost use Rattle.cal_lint.specs.rules.Crontab.{are_crontab, crontab_expression, five_words, is_crontab, is_field_byte, shown_fields};
+ghost use Rattle.cal_cron.specs.computed.Translation.{shown_exprs};
+ghost use Rattle.cal_lint.specs.rules.Crontab.{are_crontab, crontab_expression, five_words, is_crontab, is_field_byte, shown_fields, single_expression};
 
 use cal_bytes::first_word;
-use cal_cron::{CronFault, read_cron};
+use cal_cron::{CronExprs, CronFault, read_cron};
 use cal_spec::normal_text;
 use std::alloc::{AllocError, Global};
 
@@ -39,15 +40,21 @@ pub(crate) fn from_crontab(alloc: Global, text: &str) -> Result<Option<String>, 
 fn expression_of(alloc: Global, text: &str) -> Result<String, AllocError>
     ensures { IfOk result (λ expr. string_bytes expr ≡ crontab_expression text.now) }
 {
-    let exprs = match read_cron(alloc, text) {
-        Ok(exprs) => exprs,
-        Err(CronFault::NoMemory) => return Err(AllocError),
-        Err(_) => return Ok(String::new(alloc)),
-    };
-    if exprs.other.is_some() {
-        return Ok(String::new(alloc));
+    match read_cron(alloc, text) {
+        Ok(exprs) => single_expression(alloc, &exprs),
+        Err(CronFault::NoMemory) => Err(AllocError),
+        Err(_) => Ok(String::new(alloc)),
     }
-    normal_text(alloc, &exprs.first)
+}
+
+/// Returns the normal form of the only expression, or an empty text if there are two.
+fn single_expression(alloc: Global, exprs: &CronExprs) -> Result<String, AllocError>
+    ensures { IfOk result (λ expr. string_bytes expr ≡ single_expression (Ok (shown_exprs exprs.now))) }
+{
+    match exprs.other {
+        Some(_) => Ok(String::new(alloc)),
+        None => normal_text(alloc, &exprs.first),
+    }
 }
 
 /// Returns whether a text looks like the five fields of a crontab.
