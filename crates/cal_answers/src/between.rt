@@ -18,8 +18,9 @@ use cal_timers_report::{UnitElapse, between_json, between_text};
 use cal_zone::Instant;
 use std::alloc::{AllocError, Global};
 
-/// Lists the elapses of timers and of entries of crontabs in a range. `from` and `before` are the texts of its start, which is included, and of its
-/// end, which isn't. An end such as `Mon 06:00` resolves to the first such time after the start.
+/// Lists the elapses of timers and of entries of crontabs in a range. `from` and `before` are the texts of its start,
+/// which is included, and of its end, which isn't. An end such as `Mon 06:00` resolves to the first such time after the
+/// start.
 pub(crate) fn between(
     alloc: Global,
     context: Context<'_>,

@@ -40,8 +40,8 @@ const MAX_TEXT: usize = 3 * 1_048_576;
 
 /// Returns all problems of the files, each file checked by itself; then those of the crontabs; then what is wrong with
 /// the timers that are made of the files; then warnings about expressions and exceptions that have no effect; and then
-/// warnings about exceptions that systemd ignores. `index` is the index of the search path, and `is_strict` says whether a warning gives the status
-/// [`INVALID`].
+/// warnings about exceptions that systemd ignores. `index` is the index of the search path, and `is_strict` says whether
+/// a warning gives the status [`INVALID`].
 pub(crate) fn lint(
     alloc: Global,
     context: Context<'_>,

@@ -22,8 +22,8 @@ use cal_unit_index::UnitIndex;
 use std::alloc::{AllocError, Global};
 
 /// Loads what a question names. If `list`, `lint` or `between` names no timers, loads the timers that other units start
-/// or, with `--all`, all timers in the search path. With `--cron`, the entries of crontabs are loaded, too. `index` is the index of the search path, and `about` is the timer
-/// that `due` is about.
+/// or, with `--all`, all timers in the search path. With `--cron`, the entries of crontabs are loaded, too. `index` is
+/// the index of the search path, and `about` is the timer that `due` is about.
 pub(crate) fn load_by_verb<'q, T: Tree>(
     alloc: Global,
     tree: &mut T,

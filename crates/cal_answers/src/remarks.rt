@@ -217,8 +217,8 @@ fn is_drop_in(name: &str) -> bool
     name.as_bytes().ends_with(b".conf")
 }
 
-/// Returns whether loading found nothing at all: no timer, no file, no crontab, no masked unit and no error. For `same`, `next`,
-/// `due` and `cron`, to which a folder can't be given, returns `false`.
+/// Returns whether loading found nothing at all: no timer, no file, no crontab, no masked unit and no error. For `same`,
+/// `next`, `due` and `cron`, to which a folder can't be given, returns `false`.
 fn is_nothing(loaded: &LoadedByVerb<'_>) -> bool
     ensures { result ≡ is_nothing loaded.now }
 {

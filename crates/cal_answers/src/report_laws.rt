@@ -23,8 +23,8 @@ pub fn lint_fails_for_what_it_prints()
 {}
 
 /// If no two problems of files have the same text, none that is found in crontabs or when timers are loaded has the text
-/// of another problem. None of these is missing: one that isn't listed has the text of a listed problem, or is left out because of
-/// a problem in its line.
+/// of another problem. None of these is missing: one that isn't listed has the text of a listed problem, or is left out
+/// because of a problem in its line.
 pub fn lint_lists_no_problem_twice()
     ensures once { (style : Style) (listed : List Listed) (candidates : List Candidate)
         → AreDistinct listed → AreDistinct (with_candidates style listed candidates) }
