@@ -20,7 +20,7 @@ pub(crate) struct Candidate {
 }
 
 /// Which problems make `lint` leave out a candidate if they are listed already.
-#[derive(Clone, Copy, PartialEq, Eq)]
+#[derive(Clone, Copy)]
 pub(crate) enum Unless {
     /// Only the same problem. Several timers can have the same drop-in, and then its problem is found several times.
     Same,

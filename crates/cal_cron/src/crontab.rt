@@ -8,7 +8,7 @@ use crate::{CronExprs, CronFault};
 use std::alloc::AllocError;
 
 /// The format of a crontab: what follows the time fields of its entries.
-#[derive(Clone, Copy, PartialEq, Eq)]
+#[derive(Clone, Copy)]
 pub enum CrontabFormat {
     /// Lines that are given as arguments. A command, but no user, may follow the time fields.
     Argument,
@@ -82,7 +82,7 @@ pub enum EntryTime {
 }
 
 /// An error in a line of a crontab.
-#[derive(Clone, Copy, PartialEq, Eq)]
+#[derive(Clone, Copy)]
 pub struct LineFault {
     /// The number of the byte at which the error begins, from 1.
     pub column: u32,
@@ -90,7 +90,7 @@ pub struct LineFault {
 }
 
 /// Why an entry of a crontab is invalid.
-#[derive(Clone, Copy, PartialEq, Eq)]
+#[derive(Clone, Copy)]
 pub enum EntryFault {
     /// The time fields are invalid. This is never [`CronFault::Reboot`] or [`CronFault::NoMemory`].
     Time(CronFault),

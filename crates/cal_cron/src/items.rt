@@ -8,7 +8,7 @@ use crate::values::{read_step, read_value};
 use crate::{CronField, FieldFault};
 
 /// The numbers `first`, `first + step`, .. that are at most `last`.
-#[derive(Clone, Copy, PartialEq, Eq)]
+#[derive(Clone, Copy)]
 pub struct CronRange {
     pub first: u16,
     pub last: u16,

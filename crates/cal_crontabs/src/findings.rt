@@ -28,7 +28,7 @@ pub struct CronFinding<'t> {
 }
 
 /// What the author of a crontab should know.
-#[derive(Clone, Copy, PartialEq, Eq)]
+#[derive(Clone, Copy)]
 pub enum CronFindingKind {
     /// The entry is invalid.
     Invalid(EntryFault),

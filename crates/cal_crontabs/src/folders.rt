@@ -57,7 +57,7 @@ pub(crate) fn user_paths<T: Tree>(alloc: Global, tree: &mut T) -> Result<Vec<Str
 }
 
 /// Which names in a folder are those of crontabs.
-#[derive(Clone, Copy, PartialEq, Eq)]
+#[derive(Clone, Copy)]
 pub(crate) enum NameRule {
     /// Names that have only letters, digits, `_` and `-`: those of run-parts(8), as cron(8) of Debian says.
     Package,

@@ -5,7 +5,7 @@ use cal_machine::{Entry, Names, System, TreeFault, Unreadable};
 use std::alloc::{AllocError, Global};
 
 /// What is at a path.
-#[derive(Clone, Copy, Debug)]
+#[derive(Clone, Copy)]
 pub enum Item<'a> {
     /// A file with these bytes.
     File(&'a [u8]),
@@ -23,7 +23,7 @@ pub enum Item<'a> {
 
 /// A system with these items, each at its path, and with the folders above them. `read` doesn't follow links, `HOME` is
 /// the only variable, and `below` ignores its folder.
-#[derive(Clone, Copy, Debug)]
+#[derive(Clone, Copy)]
 pub struct MemorySystem<'a> {
     pub items: &'a [(&'a str, Item<'a>)],
     /// The time that the clock shows, in seconds of Unix time.

@@ -15,7 +15,7 @@ use cal_spec::{Expr, Field, Part, SpecFault, read_expr};
 use std::alloc::Global;
 
 /// Why a valid expression may not mean what its author thinks.
-#[derive(Clone, Copy, PartialEq, Eq)]
+#[derive(Clone, Copy)]
 pub enum Ambiguity {
     /// The hour and the second are single numbers, and the minutes are a range, without a step, from 0 to a number that
     /// could be a later hour. `10:00..12:00` stands for the minutes 0 to 12 of the hour 10, and not for the time from

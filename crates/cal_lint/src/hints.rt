@@ -24,7 +24,7 @@ use cal_spec::{SpecFault, read_expr};
 use std::alloc::{AllocError, Global};
 
 /// A known mistake that an invalid expression resembles.
-#[derive(Clone, Copy, PartialEq, Eq)]
+#[derive(Clone, Copy)]
 pub enum Mistake {
     /// An assignment, such as `OnCalendar=daily`, in place of its value.
     Assignment,

@@ -28,7 +28,7 @@ const MAX_DAY_FROM_END: u16 = 28;
 const MAX_NUMBER: u64 = 9999;
 
 /// Why systemd 252 rejects a calendar expression that is valid here.
-#[derive(Clone, Copy, PartialEq, Eq)]
+#[derive(Clone, Copy)]
 pub enum Rejection {
     /// The expression contains a tab.
     Tab,

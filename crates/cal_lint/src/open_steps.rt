@@ -16,7 +16,7 @@ use std::alloc::Global;
 ///
 /// After the last number that such a step matches, systemd 252 goes on to the next number of the step, even though it
 /// is past the field's last number: after minute 56 to minute 63, which is minute 3 of the next hour.
-#[derive(Clone, Copy, PartialEq, Eq)]
+#[derive(Clone, Copy)]
 pub enum OpenStepFlaw {
     /// Elapses are lost in every zone. If the field is the second, elapses at the start of an hour are lost; if it is
     /// the minute, at the start of a day; if it is the hour, on the first day of a month; if it is the day, in January.

@@ -30,7 +30,7 @@ use cal_timer::KeyKind;
 use std::alloc::{AllocError, Global};
 
 /// How serious a problem is.
-#[derive(Clone, Copy, PartialEq, Eq)]
+#[derive(Clone, Copy)]
 pub enum ProblemKind {
     /// This project or systemd 252 rejects the expression, no usual instance makes it valid, systemd 252 stops reading
     /// the file, or the timer can't be enabled.
@@ -41,7 +41,7 @@ pub enum ProblemKind {
 }
 
 /// What is wrong with a line (systemd.syntax(7)).
-#[derive(Clone, Copy, PartialEq, Eq)]
+#[derive(Clone, Copy)]
 pub enum Problem {
     /// The expression or the exception is invalid, or its list is full.
     Invalid(TimerFault),

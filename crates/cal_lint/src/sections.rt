@@ -15,7 +15,7 @@ const TIMER: &[u8] = b"Timer";
 const INSTALL: &[u8] = b"Install";
 
 /// A section that systemd reads in a timer.
-#[derive(Clone, Copy, PartialEq, Eq)]
+#[derive(Clone, Copy)]
 pub enum Section {
     Unit,
     Timer,
@@ -23,7 +23,7 @@ pub enum Section {
 }
 
 /// The section in which a line of a unit file stands.
-#[derive(Clone, Copy, PartialEq, Eq)]
+#[derive(Clone, Copy)]
 pub(crate) enum OpenSection {
     /// The line comes before the first section header.
     Outside,

@@ -111,7 +111,7 @@ fn all_files<T: Tree>(
 }
 
 /// What is at a path.
-#[derive(Clone, Copy, PartialEq, Eq)]
+#[derive(Clone, Copy)]
 enum Taken {
     /// A file with text, which was read.
     Read,

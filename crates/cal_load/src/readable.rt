@@ -18,7 +18,7 @@ use cal_timer::LogicalLine;
 use std::alloc::{AllocError, Global};
 
 /// Why systemd stops reading a file.
-#[derive(Clone, Copy, PartialEq, Eq)]
+#[derive(Clone, Copy)]
 pub enum BrokenReason {
     /// A line that isn't a comment isn't valid UTF-8, or has a noncharacter of Unicode, such as U+FFFE.
     NotUtf8,

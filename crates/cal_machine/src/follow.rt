@@ -15,7 +15,7 @@ use crate::tree::{Entry, Names, Tree, TreeFault, Unreadable};
 use std::alloc::Global;
 
 /// Whether a link at the end of a path is followed.
-#[derive(Clone, Copy, PartialEq, Eq)]
+#[derive(Clone, Copy)]
 pub enum Last {
     /// The link is followed, like all links on the way.
     Followed,

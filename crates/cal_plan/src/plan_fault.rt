@@ -6,7 +6,7 @@ ghost use Rattle.cal_plan.specs.declared.plan_fault.PlanFault.TheVariants.{NoMem
 use std::alloc::{AllocError, AllocFailed};
 
 /// Why the elapses of expressions and exceptions can't be computed.
-#[derive(Clone, Copy, PartialEq, Eq)]
+#[derive(Clone, Copy)]
 pub enum PlanFault {
     /// The expression or exception on the line with this number (counted from 1) names a zone that is neither `UTC` nor
     /// in the zone table.

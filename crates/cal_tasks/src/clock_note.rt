@@ -3,7 +3,7 @@
 use cal_load::LoadedTimer;
 
 /// What a clock change does to a local time.
-#[derive(Clone, Copy, PartialEq, Eq, PartialOrd, Ord)]
+#[derive(Clone, Copy, PartialEq, Eq)]
 pub enum ClockChange {
     /// Clocks skip the local time, so nothing elapses then.
     Skipped,
@@ -12,7 +12,7 @@ pub enum ClockChange {
 }
 
 /// A local time that an expression of a timer matches and that a clock change skips or repeats.
-#[derive(Clone, Copy, PartialEq, Eq, PartialOrd, Ord)]
+#[derive(Clone, Copy, PartialEq, Eq)]
 pub struct ClockNote {
     /// The local time, in seconds since 1970-01-01 00:00:00 on the clock of the zone.
     pub local: i64,

@@ -10,7 +10,7 @@ use std::alloc::Global;
 
 /// The first instants in a range at which only one of two timers elapses. If both fields are `None`, the timers elapse
 /// at the same instants in this range.
-#[derive(Clone, Copy, PartialEq, Eq)]
+#[derive(Clone, Copy)]
 pub struct Difference {
     /// The first instant at which the first timer elapses and the second doesn't.
     pub only_one: Option<Instant>,

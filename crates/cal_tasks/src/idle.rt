@@ -29,7 +29,7 @@ use std::alloc::{AllocError, Global};
 const MAX_ELAPSES: u32 = 10_000;
 
 /// Why an expression or an exception of a timer is reported: it has no effect, or systemd 252 fails for it.
-#[derive(Clone, Copy, PartialEq, Eq)]
+#[derive(Clone, Copy)]
 pub enum IdleKind {
     /// The expression doesn't elapse after the present.
     NeverElapses,
@@ -41,7 +41,7 @@ pub enum IdleKind {
 }
 
 /// An expression or an exception that has no effect, or for which systemd 252 fails.
-#[derive(Clone, Copy, PartialEq, Eq)]
+#[derive(Clone, Copy)]
 pub struct IdleLine {
     /// The number of the line with the expression or exception. [`cal_load::TimerFiles::position`] finds the file.
     pub number: u32,

@@ -3,7 +3,7 @@
 use cal_zone::Instant;
 
 /// An instant, and the timer that elapses then.
-#[derive(Clone, Copy, PartialEq, Eq)]
+#[derive(Clone, Copy)]
 pub struct TimerElapse {
     pub instant: Instant,
     /// The index of the timer in the list of timers, from 0.

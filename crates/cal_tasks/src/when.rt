@@ -16,7 +16,7 @@ use cal_zone::{Instant, Setting, ZoneTable};
 use std::alloc::{AllocError, Global};
 
 /// Why a text can't be parsed as an instant.
-#[derive(Clone, Copy, PartialEq, Eq)]
+#[derive(Clone, Copy)]
 pub enum WhenFault {
     /// The text is neither a weekday with a time that elapses nor a timestamp. The value is the error of parsing it as
     /// a timestamp.

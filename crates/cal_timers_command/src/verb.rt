@@ -8,7 +8,7 @@ use std::alloc::{AllocError, Global};
 use strsim::osa_distance;
 
 /// A verb: what a question asks for.
-#[derive(Clone, Copy, PartialEq, Eq)]
+#[derive(Clone, Copy)]
 pub enum Verb {
     /// The next elapse of each timer, soonest first.
     List,

@@ -6,7 +6,7 @@ ghost use Rattle.cal_timers_report.specs.rules.Emphasis.{begin_text, end_text};
 use std::alloc::AllocError;
 
 /// How text is printed: the width of the terminal, and whether bold and red are used.
-#[derive(Clone, Copy, PartialEq, Eq)]
+#[derive(Clone, Copy)]
 pub struct Style {
     /// The width of the terminal, in characters. The notes in the table of timers are cut to fit into it.
     pub width: usize,
@@ -15,7 +15,7 @@ pub struct Style {
 }
 
 /// A kind of emphasized text.
-#[derive(Clone, Copy, PartialEq, Eq)]
+#[derive(Clone, Copy)]
 pub enum Emphasis {
     Heading,
     Error,

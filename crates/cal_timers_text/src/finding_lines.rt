@@ -12,7 +12,7 @@ use cal_timers_report::{Emphasis, Style, push_blanks, push_printable, push_times
 use std::alloc::{AllocError, Global};
 
 /// How many problems `lint` found.
-#[derive(Clone, Copy, PartialEq, Eq)]
+#[derive(Clone, Copy)]
 pub struct ProblemCounts {
     pub errors: usize,
     pub warnings: usize,

@@ -26,7 +26,7 @@ const UNIT_SUFFIXES: [&[u8]; 11] = [
 const MAX_NAME: usize = 255;
 
 /// What a unit's name stands for.
-#[derive(Clone, Copy, PartialEq, Eq)]
+#[derive(Clone, Copy)]
 pub enum UnitKind {
     /// A unit of its own, such as `backup.timer`.
     Plain,

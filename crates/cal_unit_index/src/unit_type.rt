@@ -4,7 +4,7 @@ ghost use Rattle.std.specs.Prelude.{◌≡◌};
 ghost use Rattle.cal_unit_index.specs.rules.Folders.{suffix_of, type_folder};
 
 /// The type of a unit, which the suffix of its name shows.
-#[derive(Clone, Copy, PartialEq, Eq)]
+#[derive(Clone, Copy)]
 pub enum UnitType {
     Timer,
     Service,

@@ -7,7 +7,7 @@ use cal_zone::LoadFault;
 use std::alloc::{AllocError, AllocFailed};
 
 /// What decides which zone to use.
-#[derive(Clone, Copy, PartialEq, Eq)]
+#[derive(Clone, Copy)]
 pub enum Origin {
     /// The option `--zone` or `--in`.
     Argument,
@@ -16,7 +16,7 @@ pub enum Origin {
 }
 
 /// Why the file of a zone can't be used.
-#[derive(Clone, Copy, PartialEq, Eq)]
+#[derive(Clone, Copy)]
 pub enum FileReason {
     /// There is no such file.
     NotFound,
