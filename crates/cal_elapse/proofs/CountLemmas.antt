@@ -1,9 +1,9 @@
 -- Lemmas about how many of several consecutive numbers pass a test.
-use Rattle.std.proofs.Common.{◌≡◌, ◌==◌, ℕ, zero, suc, ◌+◌, ◌-◌, ◌/◌, ◌%◌, ◌^◌, subst, ◌<◌, ◌≤◌, cond, count_ones, Bool, true, refl, ap, pow_pos, sym, inl, inr, ◌∙◌, arith}
+use Rattle.std.proofs.Common.{◌≡◌, ◌==◌, ℕ, zero, suc, ◌+◌, ◌-◌, ◌*◌, ◌/◌, ◌%◌, ◌^◌, subst, ◌<◌, ◌≤◌, cond, count_ones, Bool, true, refl, ap, pow_pos, sym, inl, inr, ◌∙◌, arith}
 use Rattle.std.specs.Int.{bit_at}
 use Rattle.std.proofs.Math.Nat.{pow-suc}
 use Rattle.std.proofs.lemmas.Bool.{cases_eq}
-use Rattle.std.proofs.lemmas.Nat.{div_below, mod_below, ones_cat, ones_le_self, shr_split, zero_from_ones}
+use Rattle.std.proofs.lemmas.Nat.{div_below, mod_below, mul-le, ones-le, ones_cat, ones_le_self, shr_split, zero_from_ones}
 use Rattle.std.proofs.lemmas.Nat.Bits.{bit_at_cat_low}
 use Rattle.cal_elapse.specs.computed.Bits.{is_bit}
 use Rattle.cal_elapse.specs.rules.Search.{NonePasses}
@@ -110,6 +110,10 @@ count_from-ones passes a (suc n) word small bits =
     (λ i below. bits i (omega arith) ∙ ap (λ (b : ℕ). b == 1) (ap (λ (w : ℕ). bit_at w i) (sym whole) ∙ bit_at_cat_low (word / 2 ^ n) n (word % 2 ^ n) i below)) in
     let last = one_bit (passes (a + n)) (word / 2 ^ n) high (bits n (omega arith)) in
     omega arith
+
+-- a word of 64 bits has at most 64 set bits, so the product of two such numbers is at most 4,096
+pub few_ones : (a b : ℕ) → a < 2 ^ 64 → b < 2 ^ 64 → count_ones a * count_ones b ≤ 4_096
+few_ones a b fits small = mul-le _ _ 64 64 (ones-le 64 a fits) (ones-le 64 b small)
 
 -- bounds of counts, as a set of rules for the prover
 pub ruleset count_bounds = (count_from-begun, count_from-most)

@@ -59,3 +59,22 @@ days_are m n first length lowest ones k within begins long place member small al
 -- below bit `length` can be set
 pub days_end : (bits ones length k : ℕ) → ((i : ℕ) → is_bit ones i ≡ nat_lt i length) → is_bit (bit_and bits ones) k ≡ true → k < length
 days_end bits ones length k all holds = grind (arith, nat_lt, nat_tests, bit_and, is_bit-and, and_right)
+
+in_date : (d w y m : Bool) → (y && m) ≡ true → (w && (y && (m && d))) ≡ (w && d)
+in_date d w y m h = grind arith
+
+-- Suppose that the expression matches the year and the month number of month `n`. Then it matches a day of that month if
+-- and only if two bits are set: the bit of the weekday in the mask of weekdays, and the bit of the day in the mask of
+-- days.
+pub day_in-bits : (m : Masks) (n first length lowest day : ℕ) → n < 2_760 → first ≡ first_day n → length ≡ length_of n
+    → lowest ≡ (if m.from_end then 31 - length else 0) → first ≤ day → day < first + length → month_in (sets_in m) n ≡ true
+    → day_in (sets_in m) day ≡ (is_bit m.weekdays ((day + 3) % 7) && is_bit m.days (lowest + (day - first)))
+unfolding sets_in month_in
+day_in-bits m n first length lowest day within begins long at low high member =
+    let k : ℕ = day - first in
+    let bounds = length_bounds n in
+    let place : first_day n + k ≡ day = omega arith in
+    let number = day_at m.days m.from_end (length_of n) k bounds.0 (omega arith) in
+    let weekday : nat_lt ((day + 3) % 7) 7 ≡ true = grind (arith, nat_tests) in
+    let date = rw (place, number) at (day_in-month (sets_in m) n k (omega arith) (omega arith)) in
+    rw (at, long, date, weekday) (in_date (is_bit m.days ((if m.from_end then 31 - length_of n else 0) + k)) (is_bit m.weekdays ((day + 3) % 7)) _ _ member)

@@ -1,6 +1,6 @@
 -- After several matches have been converted at once, the state of the window is correct again (`IsPlacedTo`). These
 -- matches follow a converted match in its minute, or in the later minutes of its hour.
-use Rattle.std.proofs.Common.{◌≡◌, ◌⊎◌, ◌↔◌, ◌+◌, ◌-◌, ◌*◌, ◌<◌, ◌≤◌, ◌∙◌, Bool, true, false, not, ℕ, IsSomeAnd, List, MatchOption, None, Option, Some, ℤ, pos, ◌+ℤ◌, ◌-ℤ◌, ◌≤ℤ◌, ◌<ℤ◌, FitsSigned, arith, is_some, ap, inl, inr, of_z, refl, subst, sym, to_z, unsigned_abs, w64, slice_get}
+use Rattle.std.proofs.Common.{◌≡◌, ◌⊎◌, ◌↔◌, ◌+◌, ◌-◌, ◌*◌, ◌<◌, ◌≤◌, ◌∙◌, Bool, true, false, ℕ, IsSomeAnd, List, MatchOption, None, Option, Some, ℤ, pos, ◌+ℤ◌, ◌-ℤ◌, ◌≤ℤ◌, ◌<ℤ◌, FitsSigned, arith, is_some, ap, inl, inr, of_z, refl, subst, sym, to_z, unsigned_abs, w64, slice_get}
 use Rattle.std.proofs.lemmas.Bool.{both_ways}
 use Rattle.std.proofs.lemmas.Int.{ints, to_z-of_z}
 use Rattle.jiff.proofs.SpanFacts.{signed_arith}
@@ -28,7 +28,8 @@ use Rattle.cal_civil.proofs.LocalLemmas.{local_inside-pos}
 use Rattle.cal_elapse.proofs.CountLemmas.{count_from-part}
 use Rattle.cal_elapse.proofs.MinuteLemmas.{match_inside}
 use Rattle.cal_elapse.proofs.MostMonthsLemmas.{most_more}
-use Rattle.cal_elapse.proofs.WindowLemmas.{IsPlacedFrom, timed_by-near, windowed_more}
+use Rattle.cal_zone.specs.rules.Zone.{zone_of}
+use Rattle.cal_elapse.proofs.WindowLemmas.{IsPlacedFrom, near_first, timed_by-near, windowed_more}
 
 -- a UTC offset is at most 93,599 seconds in either direction
 pub offset_near : (tz : TimeZone) (from to offset : ℤ) → AreAtOffset tz from to offset → IsLocalSecond from → from ≤ℤ to
@@ -45,15 +46,53 @@ placed_at v local h = subst (IsPlacedTo v) (sym (pos_unsigned_abs local _ h.foun
 pub placed_last : (v : Window) (last : ℤ) → IsLocalSecond last → FitsSigned w64 last → IsPlacedTo v (pos (unsigned_abs last)) → IsPlacedTo v (to_z w64 (of_z w64 last))
 placed_last v last inside fits h = subst (IsPlacedTo v) (pos_unsigned_abs last _ inside.0 refl ∙ sym (to_z-of_z w64 last fits)) h
 
--- nothing is pending if `is_none` returned true for the smallest pending instant, and otherwise something is
+-- nothing is pending if `is_some` returned false for the smallest pending instant, and otherwise something is
 -- (`some_least`)
-pub no_least : (least first : Option ℤ) (b : Bool) → least ≡ first → is_some least ≡ not b → b ≡ true → first ≡ None
-no_least None first b same test holds = sym same
-no_least (Some x) first b same test holds = absurd (both_ways true (test ∙ ap not holds) refl)
+pub no_least : (least first : Option ℤ) (b : Bool) → least ≡ first → b ≡ is_some least → b ≡ false → first ≡ None
+no_least None first b same test fails = sym same
+no_least (Some x) first b same test fails = absurd (both_ways b fails test)
 
-pub some_least : (least first : Option ℤ) (b : Bool) → least ≡ first → is_some least ≡ not b → b ≡ false → (x : ℤ) × (first ≡ Some x)
-some_least None first b same test fails = absurd (both_ways false refl (test ∙ ap not fails))
-some_least (Some x) first b same test fails = (x, sym same)
+pub some_least : (least first : Option ℤ) (b : Bool) → least ≡ first → b ≡ is_some least → b ≡ true → (x : ℤ) × (first ≡ Some x)
+some_least None first b same test holds = absurd (both_ways b test holds)
+some_least (Some x) first b same test holds = (x, sym same)
+
+no_later : (xs : List ℤ) → slice_get xs 0 ≡ None → (i : ℤ) → Has xs i → ⊥
+no_later xs none i m = subst (λ (ys : List ℤ). Has ys i) (list-no_first xs none) m
+
+begun_to : (first : Option ℤ) (local last until offset given : ℤ) → MatchOption first ((until -ℤ offset) ≤ℤ given) (λ least. least ≤ℤ (local -ℤ offset)) → last ≤ℤ until
+    → MatchOption first ((last -ℤ offset) ≤ℤ given) (λ least. least ≤ℤ (local -ℤ offset))
+begun_to None local last until offset given h low = omega (arith, signed_arith)
+begun_to (Some least) local last until offset given h low = h
+
+-- if the matches after `local` up to `until` can be converted together, so can those up to `last`, unless `last` is
+-- after `until`
+pub convertible_to : (v : Window) (local last until offset : ℤ) → AreConvertible v local until offset → last ≤ℤ until → AreConvertible v local last offset
+convertible_to v local last until offset h low = record {
+  constant = λ t inside from upto. h.constant t inside from (omega (arith, ints));
+  near = λ i m. (let near = h.near i m in omega (arith, ints));
+  begun = begun_to (slice_get v.pending 0) local last until offset v.last h.begun low;
+}
+
+-- Suppose that the UTC offset is constant from `local` to `end`, and that `until` isn't after `end`. The matches after
+-- `local` up to `until` can be converted together if `least`, the smallest pending instant, isn't after the instant of
+-- `local` and `until` is at most 93,599 seconds after `least`.
+pub convertible_some : (v : Window) (local end until offset least : ℤ) → AreAtOffset (zone_of v.place_cache) local end offset → until ≤ℤ end → until ≤ℤ (least +ℤ pos 93_599)
+    → IsStrictlySortedBy int_cmp v.pending → slice_get v.pending 0 ≡ Some least → least ≤ℤ (local -ℤ offset) → AreConvertible v local until offset
+convertible_some v local end until offset least constant low near rises first begun = record {
+  constant = λ t inside from upto. constant t inside from (omega (arith, ints));
+  near = near_first v.pending least until rises first near;
+  begun = subst (λ (o : Option ℤ). MatchOption o ((until -ℤ offset) ≤ℤ v.last) (λ x. x ≤ℤ (local -ℤ offset))) (sym first) begun;
+}
+
+-- if nothing is pending, these matches can be converted together if `until` doesn't resolve to an instant after the one
+-- returned last
+pub convertible_none : (v : Window) (local end until offset : ℤ) → AreAtOffset (zone_of v.place_cache) local end offset → until ≤ℤ end
+    → slice_get v.pending 0 ≡ None → (until -ℤ offset) ≤ℤ v.last → AreConvertible v local until offset
+convertible_none v local end until offset constant low none begun = record {
+  constant = λ t inside from upto. constant t inside from (omega (arith, ints));
+  near = λ i m. absurd (no_later v.pending none i m);
+  begun = subst (λ (o : Option ℤ). MatchOption o ((until -ℤ offset) ≤ℤ v.last) (λ x. x ≤ℤ (local -ℤ offset))) (sym none) begun;
+}
 
 -- The matches after `local` up to `last` can be converted together (`AreConvertible`). Their instants are exactly the
 -- numbers for which `new` is true.
@@ -127,6 +166,20 @@ next_new v local start minutes seconds last offset c next =
           };
     }
 
+-- A search after `local` found the matches that follow `local` as bits. If those up to `until` can be converted together,
+-- and `last`, the last of them, isn't after `until`, all of them can be converted together.
+pub batch_new : (v : Window) (local until start last offset : ℤ) (minutes seconds : ℕ) → IsPlacedTo v local → (local <ℤ until → AreConvertible v local until offset) → last ≤ℤ until
+    → IsLocalSecond last → AreNext (matches (sets_in v.searcher.masks)) (unsigned_abs local) (unsigned_abs start) minutes seconds (unsigned_abs last)
+    → AreNew v (unsigned_abs local) (unsigned_abs last) offset (IsInMinutes (pos (unsigned_abs start) -ℤ offset) minutes seconds)
+batch_new v local until start last offset minutes seconds h convertible early inside next =
+    let local_is : local ≡ pos (unsigned_abs local) = sym (pos_unsigned_abs local _ h.found.0.0 refl) in
+    let last_is : last ≡ pos (unsigned_abs last) = sym (pos_unsigned_abs last _ inside.0 refl) in
+    let later = next.later in
+    let some = next.some in
+    let up_to = convertible_to v local last until offset (convertible (omega (arith, ints, local_is, last_is))) early in
+    next_new v (unsigned_abs local) (unsigned_abs start) minutes seconds (unsigned_abs last) offset
+    (subst (λ (x : ℤ). AreConvertible v x (pos (unsigned_abs last)) offset) local_is (subst (λ (y : ℤ). AreConvertible v local y offset) last_is up_to)) next
+
 near_both : (local last t s : ℕ) (member i : ℤ) → s < local + 1 → local + 1 ≤ t → t ≤ last → pos last ≤ℤ (member +ℤ pos 93_599) → member ≤ℤ (pos s +ℤ pos 93_599)
     → (pos t ≤ℤ (i +ℤ pos 93_599)) × (i ≤ℤ (pos t +ℤ pos 93_599)) → IsNear member i
 near_both local last t s member i early late up far old near = (omega (arith, ints, near), omega (arith, ints, near))
@@ -178,9 +231,6 @@ module _ (v : Window) (local last : ℕ) (offset least : ℤ) (new : ℤ → Typ
     pub new_begun : (start : ℤ) → (pos local -ℤ offset) <ℤ start → IsSomeAnd (slice_get v.pending 0) (λ x. x <ℤ start)
     new_begun start later = let low = least_low in subst (λ (o : Option ℤ). IsSomeAnd o (λ x. x <ℤ start)) (sym least_is) (omega (arith, signed_arith))
 
-no_later : (xs : List ℤ) → slice_get xs 0 ≡ None → (i : ℤ) → Has xs i → ⊥
-no_later xs none i m = subst (λ (ys : List ℤ). Has ys i) (list-no_first xs none) m
-
 passed_by : (t end : ℕ) (last offset i : ℤ) → Some (pos t -ℤ offset) ≡ Some i → t ≤ end → (pos end -ℤ offset) ≤ℤ last → last <ℤ i → ⊥
 passed_by t end last offset i at up early above = grind (arith, signed_arith)
 
@@ -188,7 +238,7 @@ passed_by t end last offset i at up early above = grind (arith, signed_arith)
 -- searcher after that.
 module _ (v : Window) (local : ℕ) (searcher : Searcher) (last : ℕ) (offset : ℤ) (new : ℤ → Type 0) (h : IsPlacedTo v (pos local)) (b : AreNew v local last offset new)
     (masks : searcher.masks ≡ v.searcher.masks)
-    (more : searcher.searches ≡ v.searcher.searches + count_from (matches (sets_in v.searcher.masks)) (local + 1) (last - local))
+    (more : searcher.searches ≡ v.searcher.searches + count_from (matches (sets_in v.searcher.masks)) (local + 1) (last + 1 - (local + 1)))
     (most : IsMostAfter (sets_in v.searcher.masks) local last v.searcher.most_months searcher.most_months)
     (holds : matches (sets_in v.searcher.masks) last ≡ true)
   where
@@ -203,6 +253,8 @@ module _ (v : Window) (local : ℕ) (searcher : Searcher) (last : ℕ) (offset :
         let later = b.begun in
         let count = seconds_in_all-is in
         let inside : last < seconds_in_all = match_inside (sets_in v.searcher.masks) last holds in
+        let length : last + 1 - (local + 1) ≡ last - local = omega arith in
+        let more_is = rw length at more in
         let part = count_from-part (matches (sets_in v.searcher.masks)) start local last h.begun later in
         let counted : searcher.searches ≡ count_from (timed_of v).matches start (last + 1 - start) = omega (arith, h.counted) in
         let begun = h.begun in

@@ -270,3 +270,11 @@ near_members (x ∷ xs) local rises h i m = to_place-near x i local h (at_least 
 pub near_ahead : (xs : List ℤ) (local : ℤ) (least : Option ℤ) (b : Bool) → IsStrictlySortedBy int_cmp xs → least ≡ slice_get xs 0 → to_place (Some local) least ≡ cond b (Some local) None → b ≡ true
     → (i : ℤ) → Has xs i → local ≤ℤ (i +ℤ pos 93_599)
 near_ahead xs local least b rises at test holds = near_members xs local rises (ap (to_place (Some local)) (sym at) ∙ (rw holds at test))
+
+-- if `local` is at most 93,599 seconds after the smallest pending instant, then it is so after each pending instant
+pub near_first : (xs : List ℤ) (least local : ℤ) → IsStrictlySortedBy int_cmp xs → slice_get xs 0 ≡ Some least → local ≤ℤ (least +ℤ pos 93_599)
+    → (i : ℤ) → Has xs i → local ≤ℤ (i +ℤ pos 93_599)
+near_first [] least local rises is near i m = absurd m
+near_first (x ∷ xs) least local rises is near i m =
+    let same : x ≡ least = cc in
+    omega (arith, ints, at_least x i xs rises m)

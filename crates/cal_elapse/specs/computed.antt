@@ -5,6 +5,7 @@ pub mod Masks
 pub mod RemainingElapses
 pub mod RemainingMatches
 pub mod Ring
+pub mod SearchResult
 pub mod SearchStart
 pub mod SearchSteps
 pub mod Searched

@@ -10,7 +10,7 @@ ghost use Rattle.cal_spec.specs.rules.Match.{matches, time_in};
 use crate::Masks;
 use crate::bits::has_bit;
 use crate::month::month_of_day;
-use crate::month_days::MonthDays;
+use crate::month_days::first_day_bit;
 use crate::search::month::has_month;
 use crate::search::time::has_minute;
 use cal_civil::{day_of, second_of_day};
@@ -33,7 +33,8 @@ fn has_time(masks: &Masks, second: u32) -> bool
     has_minute(masks, second / 60) && has_bit(masks.seconds, second % 60)
 }
 
-/// Returns whether the expression matches the date with this day number.
+/// Returns whether the expression matches the date with this day number. Tests the bits of this day only, and forms no
+/// set of the month's matching days, because only a search examines a month.
 #[tactic(auto, using(crate::proofs::MonthLemmas::month_bounds))]
 fn has_day(masks: &Masks, day: u32) -> bool
     requires { day < days_in_all }
@@ -43,7 +44,6 @@ fn has_day(masks: &Masks, day: u32) -> bool
     if !has_month(masks, month.index) {
         return false;
     }
-    // No search is made here, so the number of months examined, which `MonthDays::of` adds to `examined`, is dropped.
-    let mut examined = 0;
-    MonthDays::of(masks, month, &mut examined).has(day - month.first)
+    let bit = first_day_bit(masks.from_end, month.length) + (day - month.first);
+    has_bit(masks.weekdays, (day + 3) % 7) && has_bit(masks.days, bit)
 }

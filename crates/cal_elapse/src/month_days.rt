@@ -1,5 +1,5 @@
-//! The matching days of a month (systemd.time(7), Calendar Events). Only this module finds them, so it can count all
-//! the months that are examined.
+//! The matching days of a month (systemd.time(7), Calendar Events). Only this module forms such a set, so it can count
+//! all the months that are examined.
 
 ghost use Rattle.std.specs.Prelude.{◌≡◌, ◌+◌, ◌-◌, ◌<◌, ◌≤◌, ℕ, true, nat_lt, if◌then◌else◌};
 ghost use Rattle.cal_elapse.specs.computed.Bits.{is_bit};
@@ -8,7 +8,7 @@ ghost use Rattle.cal_elapse.specs.rules.Months.{day_in, month_in, months_in_all}
 ghost use Rattle.cal_elapse.specs.rules.Search.{IsFirstPassing};
 
 use crate::Masks;
-use crate::bits::{has_bit, next_bit};
+use crate::bits::next_bit;
 use crate::month::Month;
 
 /// The matching days of a month, with the first of the month at the lowest bit. The field is private, so that a value
@@ -47,19 +47,11 @@ impl MonthDays {
     {
         next_bit(self.bits, from)
     }
-
-    /// Returns whether the set contains the day with this zero-based index, at most 31.
-    pub(crate) fn has(self, index: u32) -> bool
-        requires { index ≤ 31 }
-        ensures { result ≡ is_bit self.bits index }
-    {
-        has_bit(self.bits, index)
-    }
 }
 
 /// Returns which bit of the mask of days stands for the first day of a month with `length` days. If days are counted
 /// from the end of the month, bit 0 stands for count 31, and the first day has the count `length`.
-fn first_day_bit(from_end: bool, length: u32) -> u32
+pub(crate) fn first_day_bit(from_end: bool, length: u32) -> u32
     requires { length ≤ 31 }
     ensures { result ≡ (if from_end then 31 - length else 0) }
 {

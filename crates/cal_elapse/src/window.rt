@@ -12,7 +12,7 @@ ghost use Rattle.cal_elapse.specs.computed.Ring.{IsInMinutes, IsNear};
 ghost use Rattle.cal_elapse.specs.computed.Window.{start_of, to_place, with_place};
 
 use crate::bits::{lowest_bit, without_lowest};
-use crate::search::searcher::{SearchStart, Searcher};
+use crate::search::searcher::{Matches, SearchStart, Searcher};
 use crate::{NoMemory, Pending};
 use cal_civil::MAX_OFFSET;
 use cal_spec::Expr;
@@ -36,8 +36,16 @@ pub struct Window<'z> {
     pending: Pending,
 }
 
+/// The local seconds after the match that was converted last, up to and including `until`. All matches in this range
+/// can be converted together, with the UTC offset `offset`.
+#[derive(Clone, Copy)]
+struct ConvertibleRange {
+    until: i64,
+    offset: i64,
+}
+
 impl<'z> Window<'z> {
-    ghost use Rattle.std.specs.Prelude.{◌≡◌, ◌↔◌, ◌<◌, ◌≤◌, [], ◌∷◌, ℤ, pos, ◌+ℤ◌, ◌≤ℤ◌, true, None, Some, IfOk, IfSome, drop, slice_get};
+    ghost use Rattle.std.specs.Prelude.{◌≡◌, ◌↔◌, ◌<◌, ◌≤◌, [], ◌∷◌, ℤ, pos, ◌+ℤ◌, ◌≤ℤ◌, ◌<ℤ◌, true, None, Some, IfOk, drop, slice_get, unsigned_abs};
     ghost use Rattle.cal_zone.specs.rules.Zone.{zone_of};
     ghost use Rattle.cal_elapse.specs.rules.ElapsesAfter.{elapses_after};
     ghost use Rattle.cal_rising.specs.rules.Elements.{Has};
@@ -45,7 +53,7 @@ impl<'z> Window<'z> {
     ghost use Rattle.cal_elapse.specs.rules.MostMonths.{IsExamined};
     ghost use Rattle.cal_elapse.specs.computed.Searched.{IsMostSearched, IsSearched};
     ghost use Rattle.cal_elapse.specs.rules.Elapses.{IsPlace, timed};
-    ghost use Rattle.cal_elapse.specs.computed.Window.{AreConvertible, IsPlacedTo, IsReady, timed_of, to_place};
+    ghost use Rattle.cal_elapse.specs.computed.Window.{AreConvertible, IsPlacedTo, IsReady, bound_of, timed_of, to_place};
     ghost use Rattle.cal_spec.specs.rules.Members.{sets_of};
 
     /// Creates the window and searches for the first match. The search starts at the first local second that can
@@ -67,7 +75,11 @@ impl<'z> Window<'z> {
     {
         let pending = Pending::new(alloc)?;
         let mut searcher = Searcher::of(expr);
-        let ahead = searcher.search(SearchStart::At(start_of(base))).local;
+        let ahead = match searcher.search(SearchStart::At(start_of(base))) {
+            Matches::First(found) => found.local,
+            // This can't happen, because a search from `At` never returns a batch.
+            Matches::Batch(_) => None,
+        };
         let base = base.secs();
         Ok(Window {
             searcher,
@@ -100,90 +112,86 @@ impl<'z> Window<'z> {
                 break;
             }
             put_place(&mut self.pending, &mut self.place_cache, local, self.last);
-            let placed = self.convert_following(local, several);
+            ahead = self.search_after(local, several);
             several = true;
-            ahead = self.searcher.search(SearchStart::After(placed)).local;
         }
         self.ahead = ahead;
     }
 
-    /// If `several` is true, converts the matches that follow `local` in its minute and then those that follow in its
-    /// hour, as far as `convert_next` can convert them together. `local` is a match that has already been converted.
-    /// Returns the last match that has been converted, which can be `local`.
-    fn convert_following(&mut self, local: i64, several: bool) -> i64
+    /// Returns the first match after `local` that still has to be converted, or `None` if none is left. `local` must
+    /// already be converted. If `several` is true, the searcher may first return batches of matches that can be
+    /// converted together. Each batch is converted, or skipped if nothing is pending, and the search continues after
+    /// it. The match that is returned has not been converted.
+    fn search_after(&mut self, local: i64, several: bool) -> Option<i64>
         requires { IsPlacedTo self.old local }
-        ensures placed { IsPlacedTo self.new result }
-        ensures on { local ≤ℤ result }
+        ensures ready { IsReady (record self.new { ahead = result }) }
+        ensures later { unsigned_abs local < bound_of result }
         ensures masks { self.new.searcher.masks ≡ self.old.searcher.masks }
         ensures timed { timed_of self.new ≡ timed_of self.old }
         ensures base { self.new.base ≡ self.old.base }
         ensures last { self.new.last ≡ self.old.last }
     {
-        if !several {
-            return local;
+        let mut converted = local;
+        loop {
+            let range = self.convertible_after(converted, several);
+            let start = SearchStart::After {
+                local: converted,
+                until: range.until,
+            };
+            let next = match self.searcher.search(start) {
+                Matches::First(found) => return found.local,
+                Matches::Batch(next) => next,
+            };
+            // If nothing is pending, none of these matches resolves to an instant after the one returned last.
+            if self.pending.least().is_some() {
+                put_minutes(
+                    &mut self.pending,
+                    next.start - range.offset,
+                    next.minutes,
+                    next.seconds,
+                );
+            }
+            converted = next.last;
         }
-        let placed = self.convert_next(local);
-        self.convert_next(placed)
     }
 
-    /// Converts the matches that follow `local` in its minute, or if there are none, those in the later minutes of its
-    /// hour. Does nothing unless they can be converted together (`offset_to`). `local` is a match that has already been
-    /// converted. Returns the last match that has been converted, which can be `local`.
-    #[tactic(auto, using(cal_civil::proofs::LocalLemmas::local_arith, crate::proofs::ReadyLemmas::few_searches, crate::proofs::ReadyLemmas::placed_is_match))]
-    fn convert_next(&mut self, local: i64) -> i64
-        requires { IsPlacedTo self.old local }
-        ensures placed { IsPlacedTo self.new result }
-        ensures on { local ≤ℤ result }
-        ensures masks { self.new.searcher.masks ≡ self.old.searcher.masks }
-        ensures timed { timed_of self.new ≡ timed_of self.old }
-        ensures base { self.new.base ≡ self.old.base }
-        ensures last { self.new.last ≡ self.old.last }
-    {
-        let Some(next) = self.searcher.next_matches(local) else {
-            return local;
-        };
-        let Some(offset) = self.offset_to(local, next.last) else {
-            return local;
-        };
-        self.searcher.count(local, &next);
-        // If nothing is pending, none of these matches resolves to an instant after the one returned last.
-        if self.pending.least().is_none() {
-            return next.last;
-        }
-        put_minutes(
-            &mut self.pending,
-            next.start - offset,
-            next.minutes,
-            next.seconds,
-        );
-        next.last
-    }
-
-    /// Returns the UTC offset from `local` to `end`, if all matches after `local` up to `end` can be converted together
-    /// with this offset. `local` is a match that has already been converted.
+    /// Returns how far the matches after `local` can be converted together. `local` is a match that has already been
+    /// converted. The range ends with the hour of `local` or earlier, and it is empty if `several` is false.
     ///
-    /// Returns `None` unless all of these conditions are met:
+    /// The range is also empty unless both of these conditions are met:
     ///
-    /// - All these matches have to be converted before the smallest pending instant can be returned.
-    /// - The UTC offset is known to be constant from `local` to `end`.
-    /// - Either the smallest pending instant is at or before the instant of `local`, or nothing is pending and `end`
-    ///   doesn't resolve to an instant after the one returned last.
+    /// - The UTC offset is known to be constant from `local` to the end of its hour.
+    /// - Nothing is pending, or the smallest pending instant is at or before the instant of `local`.
+    ///
+    /// All matches in the range have to be converted before the smallest pending instant can be returned. If nothing is
+    /// pending, none of them resolves to an instant after the one returned last.
+    #[inline(always)]
     #[tactic(auto, using(cal_civil::proofs::LocalLemmas::local_arith))]
-    fn offset_to(&self, local: i64, end: i64) -> Option<i64>
-        requires local_in { IsLocalSecond local }
-        requires end_in { IsLocalSecond end }
-        requires order { local ≤ℤ end }
-        ensures { IfSome result (AreConvertible self.now local end) }
+    fn convertible_after(&self, local: i64, several: bool) -> ConvertibleRange
+        requires { IsPlacedTo self.now local }
+        ensures { local <ℤ result.until → AreConvertible self.now local result.until result.offset }
     {
-        let least = self.pending.least();
-        if !is_to_place(end, least) {
-            return None;
+        let nothing = ConvertibleRange {
+            until: local,
+            offset: 0,
+        };
+        if !several {
+            return nothing;
         }
-        let offset = self.place_cache.offset_over(local, end)?;
-        match least {
-            Some(least) if least <= local - offset => Some(offset),
-            None if end - offset <= self.last => Some(offset),
-            _ => None,
+        let end = hour_end(local);
+        let Some(offset) = self.place_cache.offset_over(local, end) else {
+            return nothing;
+        };
+        match self.pending.least() {
+            Some(least) if least <= local - offset => ConvertibleRange {
+                until: end.min(least + MAX_OFFSET),
+                offset,
+            },
+            Some(_) => nothing,
+            None => ConvertibleRange {
+                until: (end - offset).min(self.last) + offset,
+                offset,
+            },
         }
     }
 
@@ -233,6 +241,16 @@ fn start_of(base: Instant) -> i64
     ensures inside { result ≤ℤ pos seconds_in_all }
 {
     (base.secs() - MAX_OFFSET).max(0)
+}
+
+/// Returns the last local second in the hour of `local`.
+#[tactic(auto, using(cal_civil::proofs::LocalLemmas::local_arith))]
+fn hour_end(local: i64) -> i64
+    requires { IsLocalSecond local }
+    ensures order { local ≤ℤ result }
+    ensures inside { IsLocalSecond result }
+{
+    local - local % 3_600 + 3_599
 }
 
 /// Returns whether the match `local` could resolve to an instant at or before `least`, the smallest pending instant,

@@ -8,9 +8,9 @@ use Rattle.cal_elapse.specs.declared.search.searcher.SearchStart.TheVariants.{At
 -- the first local second that the search tests
 abbrev pub begin_of : SearchStart → ℕ
 begin_of (At local) = unsigned_abs local
-begin_of (After local) = unsigned_abs local + 1
+begin_of (After local until) = unsigned_abs local + 1
 
 -- a search can start at any local second, at the end of all local seconds (`seconds_in_all`), or after a match
 abbrev pub CanStart : (ℕ → Bool) → SearchStart → Type 0
 CanStart passes (At local) = IsBetween (pos 0) (pos seconds_in_all) local
-CanStart passes (After local) = IsLocalSecond local × (passes (unsigned_abs local) ≡ true)
+CanStart passes (After local until) = IsLocalSecond local × (passes (unsigned_abs local) ≡ true)

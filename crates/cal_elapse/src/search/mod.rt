@@ -1,9 +1,9 @@
 //! The search for the next matching local second: first the next matching day, and then the time on that day.
 //!
-//! [`Window`](crate::window::Window) asks [`searcher`] for one match after another. Unless the next match is in the
-//! hour of the match before it, the searcher calls [`next_local`] or [`next_after`] in this file. They call [`time`]
-//! for the time of day, and [`day`] for the day. [`day`] calls [`month`] for the next month whose year and month number
-//! match.
+//! [`Window`](crate::window::Window) asks [`searcher`] for the matches, one after another or several consecutive ones at
+//! once. Unless the next match is in the hour of the match before it, the searcher calls [`next_local`] or
+//! [`next_after`] in this file. They call [`time`] for the time of day, and [`day`] for the day. [`day`] calls [`month`]
+//! for the next month whose year and month number match.
 
 ghost use Rattle.std.specs.Prelude.{◌≡◌, ◌+◌, ◌*◌, ◌≤◌, ◌<◌, true, pos, ◌≤ℤ◌, unsigned_abs};
 ghost use Rattle.std.specs.Option.{option_map};

@@ -6,11 +6,11 @@ use Rattle.cal_elapse.specs.computed.Masks.{sets_in}
 use Rattle.cal_elapse.specs.computed.RemainingMatches.{AreNext, AreRemaining}
 use Rattle.cal_elapse.proofs.HourLemmas.{are_next, in_hour, in_minute}
 use Rattle.cal_elapse.proofs.MinuteLemmas.{match_inside}
-use Rattle.cal_elapse.proofs.search.searcher.Searcher.next_matches.Goals.{After-from, After-local_in}
-use Rattle.cal_elapse.proofs.search.searcher.Searcher.next_matches.Goals as goal
+use Rattle.cal_elapse.proofs.search.searcher.next_matches.Goals.{After-from, After-local_in}
+use Rattle.cal_elapse.proofs.search.searcher.next_matches.Goals as goal
 
 -- `AreNext` holds for the later matches in the minute of `local`
-here : (c : After-from) → AreNext (matches (sets_in c.args.self.now.masks)) (unsigned_abs c.args.local) (unsigned_abs c.args.local + 1) 1 c.rest_of_minute-seconds.result
+here : (c : After-from) → AreNext (matches (sets_in c.args.masks.now)) (unsigned_abs c.args.local) (unsigned_abs c.args.local + 1) 1 c.rest_of_minute-seconds.result
     (unsigned_abs c.args.local + 1 + c.highest_bit.result)
 here c =
     are_next _ _ _ _ _ _ _ _
@@ -33,13 +33,13 @@ pub returns-then-seconds-ne0 : goal.returns-then-seconds-ne0
 returns-then-seconds-ne0 c = let at = (goal.at.returns-then-seconds-ne0 c).After-from in rw (last_is at, start_is at) (here at)
 
 -- if no match is left in the minute of `local`, `AreNext` holds for the matches in the later minutes of its hour
-there : (c : After-local_in) → AreNext (matches (sets_in c.args.self.now.masks)) (unsigned_abs c.args.local) ((unsigned_abs c.args.local / 60 + 1) * 60) c.rest_of_hour-minutes.result
-    c.args.self.now.masks.seconds ((unsigned_abs c.args.local / 60 + 1 + c.highest_bit-2.result) * 60 + c.highest_bit-3.result)
+there : (c : After-local_in) → AreNext (matches (sets_in c.args.masks.now)) (unsigned_abs c.args.local) ((unsigned_abs c.args.local / 60 + 1) * 60) c.rest_of_hour-minutes.result
+    c.args.masks.now.seconds ((unsigned_abs c.args.local / 60 + 1 + c.highest_bit-2.result) * 60 + c.highest_bit-3.result)
 there c =
     let local = to_z-of_z w64 c.args.local c.ranges.local in
-    let none : AreRemaining (matches (sets_in c.args.self.now.masks)) (unsigned_abs c.args.local) 0 = rw (c.if-seconds-ne0.false, local) at c.rest_of_minute-seconds.ensures in
+    let none : AreRemaining (matches (sets_in c.args.masks.now)) (unsigned_abs c.args.local) 0 = rw (c.if-seconds-ne0.false, local) at c.rest_of_minute-seconds.ensures in
     are_next _ _ _ _ _ _ _ _
-    (in_hour c.args.self.now.masks (unsigned_abs c.args.local) _ _ _ c.requires.is_match none (rw local at c.rest_of_hour-minutes.ensures) c.highest_bit-2.ensures.set c.highest_bit-2.ensures.top
+    (in_hour c.args.masks.now (unsigned_abs c.args.local) _ _ _ c.requires.is_match none (rw local at c.rest_of_hour-minutes.ensures) c.highest_bit-2.ensures.set c.highest_bit-2.ensures.top
     c.highest_bit-3.ensures.set c.highest_bit-3.ensures.top)
 
 minute_is : (c : After-local_in) → c.minute_of-minute.result ≡ unsigned_abs c.args.local / 60
