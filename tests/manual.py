@@ -52,9 +52,9 @@ NOT_WITH = re.compile(r"\bNot\s+with\n((?:\.BR? \w+(?: [,.])?\n(?:or\n)?)+)")
 NO_VERB = re.compile(r"\bis\s+given\s+without\s+a\s+verb\b")
 # The sources of the help texts.
 HELP_TEXTS = {"arguments.rt", "clap_command.rt", "verb_help.rt"}
-# Messages that the program never prints: names of zones are checked with the command line, a bad rule is reported as one
-# of --local, and `clap` never accepts arguments without a verb and a text.
-NEVER_PRINTED = {"bad zone name", "bad rule", "calendar-analyze: no verb or no text"}
+# Messages that the program never prints: names of zones are checked with the command line, and a bad rule is reported as
+# one of --local.
+NEVER_PRINTED = {"bad zone name", "bad rule"}
 # What the program needs from the C library, what a changed copy of the program needs instead, and the status of this
 # copy.
 LOADED = [(b"libc.so.6\0", b"libX.so.6\0", 127), (b"GLIBC_2.34\0", b"GLIBC_2.99\0", 1)]

@@ -1,5 +1,5 @@
 -- The examples of `WorkedArguments`, checked by computing the definitions.
-use Rattle.std.proofs.Common.{◌≡◌, ℕ, true, List, Some, Ok, Err, refl, inl}
+use Rattle.std.proofs.Common.{◌≡◌, ℕ, true, List, Some, Ok, Err, refl}
 use Rattle.clap.proofs.OnLiterals.{clap_on_literals}
 use Rattle.cal_command.specs.rules.CommandFault.{bad_iterations, help, usage}
 use Rattle.cal_command.specs.rules.CommandLine.{IsAskOf, ask_in, faults_in, parsed_in, read_options, takes_arguments}
@@ -40,4 +40,4 @@ help_asked text = (refl, refl)
 
 pub stray_asked : (text : List ℕ) → IsAskOf stray_arguments (Err (usage text))
 unfolding takes_arguments faults_in clap_on_literals
-stray_asked text = inl (refl, refl)
+stray_asked text = (refl, refl)

@@ -21,8 +21,7 @@ use std::alloc::AllocError;
 /// | 7 | `NoMemory` |
 #[derive(Debug, Drop)]
 pub enum CommandFault {
-    /// `clap` can't parse the arguments. The text is the message of `clap`, which says why, and how to get help. If
-    /// `clap` accepted arguments without a verb or a text, this would be the error too, with a text of our own.
+    /// `clap` can't parse the arguments. The text is the message of `clap`, which says why, and how to get help.
     Usage(String),
     /// The arguments ask for help or the version. The text is what to print.
     Help(String),

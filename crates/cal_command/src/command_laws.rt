@@ -1,18 +1,24 @@
-//! Laws of the command line: one for all arguments, and two for worked examples.
+//! Laws of the command line: two for all arguments, and two for worked examples.
 //!
 //! Each law is a function with an empty body, whose contract states the law.
 
-ghost use Rattle.std.specs.Prelude.{◌≡◌, ◌⊎◌, ℕ, true, List, Some, Result, Ok, Err};
+ghost use Rattle.std.specs.Prelude.{◌≡◌, ◌⊎◌, ℕ, true, List, [], Some, IsSomeAnd, Result, Ok, Err};
 ghost use Rattle.cal_command.specs.rules.Ask.{Ask};
 ghost use Rattle.cal_command.specs.rules.CommandFault.{CommandFault, bad_iterations, help, no_memory, usage};
-ghost use Rattle.cal_command.specs.rules.CommandLine.{IsAskOf, ask_in, parsed_in, takes_arguments};
+ghost use Rattle.cal_command.specs.rules.CommandLine.{IsAskOf, ask_in, faults_in, parsed_in, takes_arguments};
+ghost use Rattle.cal_command.specs.rules.VerbMatches.{HasTexts};
 ghost use Rattle.cal_command.specs.rules.WorkedArguments.{daily_matches, daily_ask, daily_arguments, help_arguments, none_arguments, options_ask, options_arguments, stray_arguments};
 
 /// If `clap` accepts the arguments, and allocation doesn't fail, the result is what they ask for or, if values are
 /// invalid, the error for the first invalid value in the order in which the values are checked.
 pub fn taken_arguments_are_answered()
     ensures { (arguments : List (List ℕ)) (answer : Result Ask CommandFault) → IsAskOf arguments answer → takes_arguments arguments ≡ true
-        → (answer ≡ Err no_memory) ⊎ (answer ≡ ask_in arguments) }
+        → (answer ≡ Err no_memory) ⊎ (ask_in arguments ≡ Some answer) }
+{}
+
+/// Whenever `clap` parses the arguments, it has found a verb and at least one text, or exactly one text for `timer`.
+pub fn parsed_arguments_have_texts()
+    ensures { (arguments : List (List ℕ)) → faults_in arguments ≡ [] → IsSomeAnd (parsed_in arguments) HasTexts }
 {}
 
 /// `clap` accepts `calendar daily`, and an example with every option. What they ask for is written out in the

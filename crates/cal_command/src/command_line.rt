@@ -1,12 +1,12 @@
 //! Parsing the command line: `clap` splits the arguments, and then the values that it found are checked.
 
-ghost use Rattle.std.specs.Prelude.{◌≡◌, ◌<◌, ◌⊎◌, [], length, map, IfOk, IfErr};
+ghost use Rattle.std.specs.Prelude.{◌≡◌, [], map, IfOk, IfErr, IsSomeAnd};
 ghost use Rattle.clap.specs.Words.{subcommand_rows_of};
 ghost use Rattle.cal_command.specs.rules.Ask.{shown_answer, texts_of};
-ghost use Rattle.cal_command.specs.rules.CommandFault.{no_memory, nothing_asked, reported, shown_fault};
+ghost use Rattle.cal_command.specs.rules.CommandFault.{reported, shown_fault};
 ghost use Rattle.cal_command.specs.rules.CommandLine.{IsAskOf, IsFaultOf, IsOrNoMemory, faults_in, parsed_in, read_options};
 ghost use Rattle.cal_options.specs.rules.ArgumentFault as refusals;
-ghost use Rattle.cal_command.specs.rules.VerbMatches.{shown_matches, verb_matches_in};
+ghost use Rattle.cal_command.specs.rules.VerbMatches.{HasTexts, shown_matches, verb_matches_in};
 
 use crate::arguments::{BASE_TIME, ITERATIONS, LOCAL, NOW, ZONES};
 use crate::ask::Ask;
@@ -36,9 +36,9 @@ impl Ask {
     ///   a rule later; or a name that has the form of a zone's name. UTC by default. Anything else is
     ///   [`CommandFault::BadLocal`].
     ///
-    /// Fails with [`CommandFault::Usage`] if `clap` can't parse the arguments, for example because an option is given
-    /// twice, and with [`CommandFault::Help`] if help or the version is asked for. If several values are invalid, the
-    /// first in the order above is reported. Fails with [`CommandFault::NoMemory`] only if allocation fails.
+    /// Fails with [`CommandFault::Usage`] only if `clap` can't parse the arguments, for example because an option is
+    /// given twice, and with [`CommandFault::Help`] if help or the version is asked for. If several values are invalid,
+    /// the first in the order above is reported. Fails with [`CommandFault::NoMemory`] only if allocation fails.
     pub fn of<'a>(alloc: Global, arguments: &'a [&'a str]) -> Result<Ask, CommandFault>
         ensures exact { IsAskOf (texts_of arguments.now) (shown_answer result) }
     {
@@ -53,31 +53,13 @@ impl Ask {
         ensures exact { IsAskOf (map S.text arguments.now) (shown_answer result) }
     {
         let matches = parse(alloc, arguments)?;
-        // Arguments that `clap` accepts always have a verb with texts, but that isn't proved.
-        let Some(found) = VerbMatches::of(&matches) else {
-            return Err(nothing_asked(alloc));
-        };
-        if found.texts.is_empty() {
-            return Err(nothing_asked(alloc));
-        }
-        read_options(alloc, found)
-    }
-}
-
-/// Returns the error for arguments that `clap` accepts although it finds no verb or no text in them.
-fn nothing_asked(alloc: Global) -> CommandFault
-    ensures { (shown_fault result ≡ nothing_asked) ⊎ (shown_fault result ≡ no_memory) }
-{
-    match String::from_str(alloc, "calendar-analyze: no verb or no text\n") {
-        Ok(text) => CommandFault::Usage(text),
-        Err(_) => CommandFault::NoMemory,
+        read_options(alloc, VerbMatches::of(&matches))
     }
 }
 
 /// Checks the values of the options and builds the `Ask`.
 #[tactic(auto, unfolding(crate::specs::rules::CommandLine::read_options))]
 fn read_options(alloc: Global, found: VerbMatches) -> Result<Ask, CommandFault>
-    requires { 0 < length found.texts.now }
     ensures { IsOrNoMemory (shown_answer result) (read_options (shown_matches found.entry)) }
 {
     let Some(iterations) = iterations_of(found.elapse_option(ITERATIONS)) else {
@@ -106,11 +88,13 @@ fn read_options(alloc: Global, found: VerbMatches) -> Result<Ask, CommandFault>
     })
 }
 
-/// Passes the arguments to `clap`, and returns what it finds in them. Fails with `Help` if they ask for help or the
-/// version, with `Usage` if `clap` can't parse them, and with `NoMemory` if allocation fails.
+/// Passes the arguments to `clap`, and returns what it finds in them: always a verb and its texts. Fails with `Help` if
+/// the arguments ask for help or the version, with `Usage` if `clap` can't parse them, and with `NoMemory` if allocation
+/// fails.
 fn parse<'a, S: AsStr>(alloc: Global, arguments: &'a [S]) -> Result<ArgMatches<'a>, CommandFault>
     ensures faults { IfOk result (λ _. faults_in (map S.text arguments.now) ≡ []) }
     ensures found { IfOk result (λ matches. verb_matches_in (subcommand_rows_of matches) ≡ parsed_in (map S.text arguments.now)) }
+    ensures texts { IfOk result (λ matches. IsSomeAnd (verb_matches_in (subcommand_rows_of matches)) HasTexts) }
     ensures fault { IfErr result (λ fault. IsFaultOf (map S.text arguments.now) (shown_fault fault)) }
 {
     match cal_options::parse(alloc, build_command(alloc)?, arguments) {

@@ -6,3 +6,4 @@ pub mod Recorded
 pub mod RecordedLemmas
 pub mod Recording
 pub mod Seen
+pub mod Told

@@ -3,7 +3,9 @@
 
 mod copies;
 mod follow;
+mod host_inputs;
 mod host_system;
+mod inputs;
 mod keep;
 mod prefix;
 mod recorder;
@@ -12,7 +14,9 @@ mod system;
 mod tree;
 
 pub use follow::{Content, Last, Place, find_place, look_at, names_at, read_at};
+pub use host_inputs::HostInputs;
 pub use host_system::HostSystem;
+pub use inputs::{Inputs, OpenFault};
 pub use prefix::after_prefix;
 pub use recorder::Recorder;
 pub use steps::before_last_byte;

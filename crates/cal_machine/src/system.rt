@@ -7,9 +7,9 @@ ghost use Rattle.cal_machine.specs.rules.Seen.{Said, ClockShows, NamesAre, Entry
 use crate::tree::{Entry, Names, TreeFault};
 use std::alloc::Global;
 
-/// The system that a program runs on: its folders, files and links, its environment variables and its clock. Both
-/// programs reach these only through this trait, except that the `main` of `calendar-timers` reads the variables for
-/// the style of its output. Arguments and outputs are passed separately.
+/// The system that `calendar-timers` runs on: its folders, files and links, its environment variables and its clock.
+/// The program reaches these only through this trait, except that its `main` reads the variables for the style of its
+/// output. Arguments and outputs are passed separately. `calendar-analyze` needs less: [`crate::Inputs`].
 ///
 /// Nothing is promised about what the calls return: the system may change, so the same call may return something else
 /// each time.

@@ -1,5 +1,6 @@
 -- `base_in` returns the base time of a request (`IsBase`).
 use Rattle.std.proofs.Common.{ℕ, ◌≡◌, refl, sym, ap, ◌∙◌, arith, subst, ℤ, pos, negsuc, List, Option, None, Some, Result, Ok, Err}
+use Rattle.std.specs.Prelude.{IfErr}
 use Rattle.jiff.proofs.SpanFacts.{signed_arith}
 use Rattle.cal_zone.specs.rules.Instant.{IsMoment}
 use Rattle.cal_stamp.specs.declared.fault.StampFault.{StampFault}
@@ -49,3 +50,11 @@ base_found asked base e = found_from asked asked.base base e
 pub base_is : (asked : Request) (base : ℤ) → IsBase asked base → base_in asked ≡ Ok base
 unfolding base_in
 base_is asked base h = is_from asked asked.base base h
+
+no_base_by : (asked : Request) (P : Type 0) (based : Result ℤ StampFault) → base_in asked ≡ based → IfErr based (λ fault. P) → ((base : ℤ) → IsBase asked base → ⊥) → P
+no_base_by asked P (Ok base) is if_refused none = absurd (none base (base_found asked base is))
+no_base_by asked P (Err fault) is if_refused none = if_refused
+
+-- if the request has no base time, then whatever holds if `base_in` returns an error is true
+pub no_base : (asked : Request) (P : Type 0) → IfErr (base_in asked) (λ fault. P) → ((base : ℤ) → IsBase asked base → ⊥) → P
+no_base asked P = no_base_by asked P (base_in asked) refl

@@ -12,4 +12,4 @@ mod text_fault;
 mod text_report;
 mod timer_report;
 
-pub use report::{report_unread, run, run_texts, run_timer};
+pub use report::{run, run_texts, run_timer};

@@ -1,16 +1,16 @@
 //! Running a whole request: the reports of its texts or of its timer file go to standard output, the error lines go
 //! to standard error, and the status says whether anything was rejected (systemd-analyze(1)).
 
-ghost use Rattle.std.specs.Prelude.{ℕ, ℤ, List, Result, Ok, Err, map, ◌≡◌, [], ◌∷◌, false, codes, IfOk, IsErrOf};
+ghost use Rattle.std.specs.Prelude.{ℕ, ℤ, List, Result, Ok, Err, map, ◌≡◌, ◌∷◌, false, codes, IfErr, IfOk, IsErrOf};
 ghost use Rattle.std.specs.String.{string_bytes};
 ghost use Rattle.cal_bytes.specs.rules.Whole.{is_read_failed};
 ghost use Rattle.cal_bytes.specs.declared.whole.WholeFault.{WholeFault};
-ghost use Rattle.cal_bytes.specs.declared.whole.WholeFault.TheVariants.{ReadFailed};
 ghost use Rattle.cal_timer.specs.rules.TimerEntries.{ReadsWhole, timer_file_limit};
 ghost use Rattle.cal_bytes.specs.rules.Writes.{Writes};
 ghost use Rattle.cal_bytes.specs.rules.Puts.{Puts};
 ghost use Rattle.cal_bytes.specs.rules.Bytes.{joined};
 ghost use Rattle.cal_report.specs.rules.Answer.{IsAnsweredBefore, error_line_in, error_line, later_text, status_in, reports_text, error_lines, texts_status};
+ghost use Rattle.cal_report.specs.rules.BaseTime.{IsBase};
 ghost use Rattle.cal_report.specs.rules.Context.{asked_by, asked_in};
 ghost use Rattle.cal_report.specs.rules.RunReport.{ByReading, IsCut, IsReported, ReadsFile, base_in, file_report, secs_or_fault, texts_report, whole_report};
 ghost use Rattle.cal_report.specs.rules.TextReport.{answer_by};
@@ -29,7 +29,6 @@ use crate::timer_report::{TimerPlanFault, read_plan, write_timer};
 use cal_bytes::{Sink, Source, WriteFault, put_pieces};
 use cal_request::{Request, RequestKind, RunFault, Status, TextVerb};
 use cal_stamp::{StampFault, read_stamp_in};
-use cal_timer::TimerFault;
 use cal_zone::{Instant, Setting, Zone, ZoneTable};
 use itoa::Buffer;
 use std::alloc::Global;
@@ -72,6 +71,7 @@ pub fn run<R: Source, O: Sink, E: Sink>(
     ensures cut { IsErrOf result NoMemory → IsCut (asked request.now now.secs local.entry table.now)
         (O.written out.old) (O.written out.new) (E.written err.old) (E.written err.new) }
     ensures input { is_timer request.now.verb ≡ false → input.new ≡ input.old }
+    ensures unread { ((base : ℤ) → IsBase (asked request.now now.secs local.entry table.now) base → ⊥) → input.new ≡ input.old }
     ensures sure { R.may_fail input.old ≡ false → R.is_failed input.new ≡ false }
 {
     let setting = Setting {
@@ -148,6 +148,7 @@ pub fn run_timer<R: Source, O: Sink, E: Sink>(
     ensures err_failed { E.is_failed err.new ≡ is_err_failed result }
     ensures cut { IsErrOf result NoMemory → (base : ℤ) × (base_in (asked_in request.now setting.entry) ≡ Ok base)
         × (O.written out.new ≡ O.written out.old) × (E.written err.new ≡ E.written err.old) }
+    ensures unread { IfErr (base_in (asked_in request.now setting.entry)) (λ _. input.new ≡ input.old) }
 {
     match read_base(request, setting) {
         Ok(base) => {
@@ -158,31 +159,6 @@ pub fn run_timer<R: Source, O: Sink, E: Sink>(
             };
             answer_timer(alloc, context, path, input, out, err)
         }
-        Err(fault) => report_error(err, "--base-time", None, fault.words()),
-    }
-}
-
-/// Answers a timer file that was opened but can't be read: writes an error line about the file or, if the base time of
-/// the request is invalid, about the base time. Fails with [`RunFault::ErrFailed`] if and only if `err` failed in this
-/// call.
-#[tactic(auto, unfolding(crate::specs::rules::TimerReport::error_line_at, crate::specs::rules::TimerReport::timer_answer))]
-pub fn report_unread<E: Sink>(
-    request: &Request,
-    path: &str,
-    setting: Setting<'_>,
-    err: &mut E,
-) -> Result<Status, RunFault>
-    requires { E.is_failed err.old ≡ false }
-    ensures status { IfOk result (λ status. status ≡ (file_report (asked_in request.now setting.entry) path.now (Err ReadFailed)).status) }
-    ensures silent { (file_report (asked_in request.now setting.entry) path.now (Err ReadFailed)).out ≡ [] }
-    ensures err { Writes (E.written err.old) (E.written err.new) result
-        (file_report (asked_in request.now setting.entry) path.now (Err ReadFailed)).err }
-    ensures err_failed { E.is_failed err.new ≡ is_err_failed result }
-    ensures out_failed { is_out_failed result ≡ false }
-    ensures memory { IsErrOf result NoMemory → ⊥ }
-{
-    match read_base(request, setting) {
-        Ok(_) => report_error(err, path, None, TimerFault::ReadFailed.words()),
         Err(fault) => report_error(err, "--base-time", None, fault.words()),
     }
 }

@@ -1,7 +1,7 @@
 -- The examples of `WorkedQuestions`, checked by computing the definitions.
 use Rattle.std.proofs.Common.{◌≡◌, ◌<◌, ℕ, List, [], ◌∷◌, None, Some, codes, false, inl, inr, length, refl, true}
 use Rattle.clap.proofs.OnLiterals.{clap_on_literals}
-use Rattle.cal_timers_command.specs.rules.Asked.{IsCommandOf, IsFaultOf, answer_in, between, command_for, command_found, count_value, due, faults_in, list, next, now_value, number_value, options_for, question_for, root_value, show, text_value, zone_value}
+use Rattle.cal_timers_command.specs.rules.Asked.{IsCommandOf, IsFaultOf, answer_in, between, command_for, count_value, due, faults_in, list, next, now_value, number_value, options_for, parsed_in, question_for, root_value, show, text_value, verb_in, zone_value}
 use Rattle.cal_options.specs.rules.ArgumentFault.{help, usage}
 use Rattle.cal_options.specs.rules.OptionNumbers.{number_between}
 use Rattle.cal_timers_command.specs.rules.OptionValues.{zone_clash}
@@ -18,35 +18,35 @@ unfolding verb_first first_failing is_value_at
 count_first = refl
 
 pub none_asked : IsCommandOf [] (plain (list [] false false))
-unfolding verb_first first_failing is_value_at faults_in answer_in command_found command_for question_for options_for count_value number_value now_value zone_value text_value root_value clap_on_literals
+unfolding verb_first first_failing is_value_at faults_in answer_in parsed_in verb_in command_for question_for options_for count_value number_value now_value zone_value text_value root_value clap_on_literals
 none_asked = (refl, refl)
 
 pub show_asked : IsCommandOf show_arguments (plain (show (codes "backup" ∷ []) 5))
-unfolding verb_first first_failing is_value_at faults_in answer_in command_found command_for question_for options_for count_value number_value now_value zone_value text_value root_value clap_on_literals
+unfolding verb_first first_failing is_value_at faults_in answer_in parsed_in verb_in command_for question_for options_for count_value number_value now_value zone_value text_value root_value clap_on_literals
 show_asked = (refl, refl)
 
 pub target_asked : IsCommandOf target_arguments (plain (list (codes "backup" ∷ []) false false))
-unfolding verb_first first_failing is_value_at faults_in answer_in command_found command_for question_for options_for count_value number_value now_value zone_value text_value root_value clap_on_literals
+unfolding verb_first first_failing is_value_at faults_in answer_in parsed_in verb_in command_for question_for options_for count_value number_value now_value zone_value text_value root_value clap_on_literals
 target_asked = (refl, refl)
 
 pub utc_asked : IsCommandOf utc_arguments (in_utc (list [] false false))
-unfolding verb_first first_failing is_value_at faults_in answer_in command_found command_for question_for options_for count_value number_value now_value zone_value text_value root_value clap_on_literals
+unfolding verb_first first_failing is_value_at faults_in answer_in parsed_in verb_in command_for question_for options_for count_value number_value now_value zone_value text_value root_value clap_on_literals
 utc_asked = (refl, refl)
 
 pub count_asked : IsCommandOf count_arguments (plain (next (codes "daily" ∷ []) 3))
-unfolding verb_first first_failing is_value_at faults_in answer_in command_found command_for question_for options_for count_value number_value now_value zone_value text_value root_value number_between clap_on_literals
+unfolding verb_first first_failing is_value_at faults_in answer_in parsed_in verb_in command_for question_for options_for count_value number_value now_value zone_value text_value root_value number_between clap_on_literals
 count_asked = (refl, refl)
 
 pub range_asked : IsCommandOf range_arguments (plain (between (codes "-5") (codes "now") [] false false))
-unfolding verb_first first_failing is_value_at faults_in answer_in command_found command_for question_for options_for count_value number_value now_value zone_value text_value root_value clap_on_literals
+unfolding verb_first first_failing is_value_at faults_in answer_in parsed_in verb_in command_for question_for options_for count_value number_value now_value zone_value text_value root_value clap_on_literals
 range_asked = (refl, refl)
 
 pub due_asked : IsCommandOf due_arguments (plain (due None))
-unfolding verb_first first_failing is_value_at faults_in answer_in command_found command_for question_for options_for count_value number_value now_value zone_value text_value root_value clap_on_literals
+unfolding verb_first first_failing is_value_at faults_in answer_in parsed_in verb_in command_for question_for options_for count_value number_value now_value zone_value text_value root_value clap_on_literals
 due_asked = (refl, refl)
 
 pub due_unit_asked : IsCommandOf due_unit_arguments (in_utc (due (Some (codes "backup"))))
-unfolding verb_first first_failing is_value_at faults_in answer_in command_found command_for question_for options_for count_value number_value now_value zone_value text_value root_value clap_on_literals
+unfolding verb_first first_failing is_value_at faults_in answer_in parsed_in verb_in command_for question_for options_for count_value number_value now_value zone_value text_value root_value clap_on_literals
 due_unit_asked = (refl, refl)
 
 pub due_two_asked : (text : List ℕ) → 0 < length text → IsFaultOf due_two_arguments (usage text)
@@ -62,7 +62,7 @@ unfolding asks_due first_failing is_value_at
 target_asks_other = refl
 
 pub clash_asked : IsFaultOf clash_arguments (usage (zone_clash false))
-unfolding verb_first first_failing is_value_at faults_in answer_in command_found command_for question_for options_for clap_on_literals
+unfolding verb_first first_failing is_value_at faults_in answer_in parsed_in verb_in command_for question_for options_for clap_on_literals
 clash_asked = inr ((refl, refl), zone_clash_some false)
 
 pub help_asked : (text : List ℕ) → 0 < length text → IsFaultOf help_arguments (help text)

@@ -1,9 +1,9 @@
-//! Laws of the arguments: one for all arguments, and three for worked examples.
+//! Laws of the arguments: two for all arguments, and three for worked examples.
 //!
 //! Each law is a function with an empty body, whose contract states the law.
 
-ghost use Rattle.std.specs.Prelude.{◌≡◌, ◌<◌, ℕ, List, [], ◌∷◌, None, Some, codes, false, length, true};
-ghost use Rattle.cal_timers_command.specs.rules.Asked.{Command, IsCommandOf, IsFaultOf, between, due, list, next, show};
+ghost use Rattle.std.specs.Prelude.{◌≡◌, ◌<◌, ℕ, List, [], ◌∷◌, None, Some, IsSomeAnd, codes, false, length, true};
+ghost use Rattle.cal_timers_command.specs.rules.Asked.{Command, HasNeeded, IsCommandOf, IsFaultOf, between, due, faults_in, list, next, parsed_in, show};
 ghost use Rattle.cal_options.specs.rules.ArgumentFault.{Fault, help, no_memory, usage};
 ghost use Rattle.cal_timers_command.specs.rules.OptionValues.{zone_clash};
 ghost use Rattle.cal_timers_command.specs.rules.VerbFirst.{asks_due};
@@ -14,6 +14,11 @@ ghost use Rattle.cal_timers_command.specs.rules.WorkedQuestions.{clash_arguments
 pub fn arguments_ask_one_command()
     ensures command { (arguments : List (List ℕ)) (one other : Command) → IsCommandOf arguments one → IsCommandOf arguments other → one ≡ other }
     ensures fault { (arguments : List (List ℕ)) (command : Command) (fault : Fault) → IsCommandOf arguments command → IsFaultOf arguments fault → fault ≡ no_memory }
+{}
+
+/// Whenever `clap` parses the arguments, it has found a verb and all targets that this verb needs.
+pub fn parsed_arguments_are_complete()
+    ensures { (arguments : List (List ℕ)) → faults_in arguments ≡ [] → IsSomeAnd (parsed_in arguments) (λ found. HasNeeded found.0 found.1) }
 {}
 
 /// What these arguments ask: none at all, `show backup`, `backup`, `--utc list`, `-n 3 next daily`,

@@ -1,8 +1,8 @@
 //! Parsing of the arguments into a command, from the matches that `clap` returns.
 
-ghost use Rattle.std.specs.Prelude.{◌≡◌, Ok, IfErr, IfOk, map};
+ghost use Rattle.std.specs.Prelude.{◌≡◌, Some, Ok, IfErr, IfOk, IsSomeAnd, map};
 ghost use Rattle.clap.specs.Words.{found_of, rows_of, subcommand_rows_of};
-ghost use Rattle.cal_timers_command.specs.rules.Asked.{IsCommandOf, IsFaultIn, IsFaultOf, command_for, command_found, shown_command};
+ghost use Rattle.cal_timers_command.specs.rules.Asked.{HasNeeded, IsCommandOf, IsFaultIn, IsFaultOf, command_for, shown_command, verb_in};
 ghost use Rattle.cal_options.specs.rules.ArgumentFault.{shown_fault};
 ghost use Rattle.cal_timers_command.specs.rules.Questions.{HasText};
 
@@ -11,7 +11,7 @@ use crate::options::options_of;
 use crate::question::Command;
 use crate::verb::Verb;
 use crate::verb_first::with_verb_first;
-use crate::verb_questions::{no_question, question_of};
+use crate::verb_questions::question_of;
 use cal_options::ArgumentFault;
 use clap::ArgMatches;
 use std::alloc::Global;
@@ -37,28 +37,32 @@ impl Command {
     {
         let texts = with_verb_first(alloc, arguments)?;
         let matches = parse(alloc, texts.as_slice())?;
-        command_found(alloc, &matches)
+        let (verb, values) = verb_of(&matches);
+        command_of(alloc, verb, values)
     }
 }
 
-/// Returns the command that the verb and the values in `matches` ask for, or the error of the first invalid value.
-fn command_found(alloc: Global, matches: &ArgMatches<'_>) -> Result<Command, ArgumentFault>
-    ensures command { IfOk result (λ command. command_found (subcommand_rows_of matches.now) ≡ Ok (shown_command command)) }
-    ensures fault { IfErr result (IsFaultIn (command_found (subcommand_rows_of matches.now))) }
+/// Returns the verb and the values that `clap` found in arguments that it accepted. It never accepts arguments without a
+/// verb, or without a target that the verb needs.
+fn verb_of<'b, 'a>(matches: &'b ArgMatches<'a>) -> (Verb, &'b ArgMatches<'a>)
+    requires { IsSomeAnd (verb_in (subcommand_rows_of matches.now)) (λ found. HasNeeded found.0 found.1) }
+    ensures found { verb_in (subcommand_rows_of matches.now) ≡ Some (result.0, rows_of (found_of result.1.now)) }
+    ensures needed { HasNeeded result.0 (rows_of (found_of result.1.now)) }
 {
     let Some((name, values)) = matches.subcommand() else {
-        return Err(no_question(alloc));
+        unreachable!()
     };
     let Some(verb) = Verb::named(name) else {
-        return Err(no_question(alloc));
+        unreachable!()
     };
-    command_of(alloc, verb, values)
+    (verb, values)
 }
 
 /// Returns the command of a verb with these values, or the error of the first invalid value. The values that only some
 /// verbs have are checked before the options that most verbs share.
 #[tactic(auto, unfolding(crate::specs::rules::Asked::command_for))]
 fn command_of(alloc: Global, verb: Verb, values: &ArgMatches<'_>) -> Result<Command, ArgumentFault>
+    requires { HasNeeded verb (rows_of (found_of values.now)) }
     ensures command { IfOk result (λ command. command_for verb (rows_of (found_of values.now)) ≡ Ok (shown_command command)) }
     ensures fault { IfErr result (IsFaultIn (command_for verb (rows_of (found_of values.now)))) }
 {

@@ -1,10 +1,9 @@
 //! The question that each verb asks, from the matches that `clap` returns.
 
-ghost use Rattle.std.specs.Prelude.{◌≡◌, ◌++◌, Ok, IfErr, IfOk, map, string_bytes};
+ghost use Rattle.std.specs.Prelude.{◌≡◌, Ok, IfErr, IfOk, IsSome, map, string_bytes};
 ghost use Rattle.clap.specs.Words.{first_of, found_of, rows_of};
 ghost use Rattle.cal_timers_command.specs.declared.verb.Verb.TheVariants.{List, Show, Lint, Between, Same, Next, Due, Cron};
-ghost use Rattle.cal_timers_command.specs.rules.Asked.{IsFaultIn, needed, one_or_more, question_for, shown_question, targets_in};
-ghost use Rattle.cal_timers_command.specs.rules.Questions.{HasText, IsUsageOf, no_question};
+ghost use Rattle.cal_timers_command.specs.rules.Asked.{HasNeeded, HasPair, IsFaultIn, needed_text, question_for, shown_question, targets_in};
 ghost use Rattle.cal_timers_command.specs.rules.Texts.{texts_of};
 
 use crate::arguments::{ALL, ANY_TIMERS, CRON, FROM, ONE_SIDE, ONE_TIMER, OTHER_SIDE, STRICT, TO};
@@ -15,10 +14,6 @@ use cal_options::{Argument, ArgumentFault, is_set, value_of};
 use clap::ArgMatches;
 use std::alloc::{AllocError, Global};
 
-/// The text of the error that [`no_question`] returns.
-const NO_QUESTION: &str =
-    "error: no verb, or a wrong number of arguments\n\nFor more information, try '--help'.\n";
-
 /// Returns the question that a verb with these values asks, or the error of the first invalid value. The options that
 /// most verbs share aren't checked here.
 pub(crate) fn question_of(
@@ -26,6 +21,7 @@ pub(crate) fn question_of(
     verb: Verb,
     values: &ArgMatches<'_>,
 ) -> Result<Question, ArgumentFault>
+    requires { HasNeeded verb (rows_of (found_of values.now)) }
     ensures question { IfOk result (λ question. question_for verb (rows_of (found_of values.now)) ≡ Ok (shown_question question)) }
     ensures fault { IfErr result (IsFaultIn (question_for verb (rows_of (found_of values.now)))) }
 {
@@ -59,7 +55,7 @@ fn show_of(alloc: Global, values: &ArgMatches<'_>) -> Result<Question, ArgumentF
     ensures question { IfOk result (λ question. question_for Show (rows_of (found_of values.now)) ≡ Ok (shown_question question)) }
     ensures fault { IfErr result (IsFaultIn (question_for Show (rows_of (found_of values.now)))) }
 {
-    let timers = needed_targets(alloc, values)?;
+    let timers = targets_of(alloc, values)?;
     let count = count_of(alloc, values)?;
     Ok(Question::Show { timers, count })
 }
@@ -79,6 +75,7 @@ fn lint_of(alloc: Global, values: &ArgMatches<'_>) -> Result<Question, ArgumentF
 
 #[tactic(auto, unfolding(crate::specs::rules::Asked::question_for))]
 fn between_of(alloc: Global, values: &ArgMatches<'_>) -> Result<Question, ArgumentFault>
+    requires { HasPair (rows_of (found_of values.now)) }
     ensures question { IfOk result (λ question. question_for Between (rows_of (found_of values.now)) ≡ Ok (shown_question question)) }
     ensures fault { IfErr result (IsFaultIn (question_for Between (rows_of (found_of values.now)))) }
 {
@@ -96,6 +93,7 @@ fn between_of(alloc: Global, values: &ArgMatches<'_>) -> Result<Question, Argume
 
 #[tactic(auto, unfolding(crate::specs::rules::Asked::question_for))]
 fn same_of(alloc: Global, values: &ArgMatches<'_>) -> Result<Question, ArgumentFault>
+    requires { HasPair (rows_of (found_of values.now)) }
     ensures question { IfOk result (λ question. question_for Same (rows_of (found_of values.now)) ≡ Ok (shown_question question)) }
     ensures fault { IfErr result (IsFaultIn (question_for Same (rows_of (found_of values.now)))) }
 {
@@ -109,7 +107,7 @@ fn next_of(alloc: Global, values: &ArgMatches<'_>) -> Result<Question, ArgumentF
     ensures question { IfOk result (λ question. question_for Next (rows_of (found_of values.now)) ≡ Ok (shown_question question)) }
     ensures fault { IfErr result (IsFaultIn (question_for Next (rows_of (found_of values.now)))) }
 {
-    let expressions = needed_targets(alloc, values)?;
+    let expressions = targets_of(alloc, values)?;
     let count = count_of(alloc, values)?;
     Ok(Question::Next { expressions, count })
 }
@@ -135,32 +133,19 @@ fn cron_of(alloc: Global, values: &ArgMatches<'_>) -> Result<Question, ArgumentF
     Ok(Question::Cron { crontabs })
 }
 
-/// Returns a copy of a required argument. Fails with [`no_question`] if it isn't given, which `clap` doesn't let happen.
+/// Returns a copy of a required argument.
 fn needed_text(
     alloc: Global,
     values: &ArgMatches<'_>,
     argument: Argument,
-) -> Result<String, ArgumentFault>
-    ensures text { IfOk result (λ text. needed (first_of argument.name.now (rows_of (found_of values.now))) ≡ Ok (string_bytes text)) }
-    ensures fault { IfErr result (IsFaultIn (needed (first_of argument.name.now (rows_of (found_of values.now))))) }
+) -> Result<String, AllocError>
+    requires { IsSome (first_of argument.name.now (rows_of (found_of values.now))) }
+    ensures { IfOk result (λ text. string_bytes text ≡ needed_text argument.name.now (rows_of (found_of values.now))) }
 {
-    match value_of(values, argument) {
-        Some(text) => Ok(String::from_str(alloc, text)?),
-        None => Err(no_question(alloc)),
-    }
-}
-
-/// Returns copies of the timers, or of the expressions of `next`. Fails with [`no_question`] if there are none, which
-/// `clap` doesn't let happen for the verbs that need one.
-fn needed_targets(alloc: Global, values: &ArgMatches<'_>) -> Result<Vec<String>, ArgumentFault>
-    ensures targets { IfOk result (λ targets. one_or_more (targets_in (rows_of (found_of values.now))) ≡ Ok (map string_bytes targets.items)) }
-    ensures fault { IfErr result (IsFaultIn (one_or_more (targets_in (rows_of (found_of values.now))))) }
-{
-    let targets = targets_of(alloc, values)?;
-    if targets.is_empty() {
-        return Err(no_question(alloc));
-    }
-    Ok(targets)
+    let Some(text) = value_of(values, argument) else {
+        unreachable!()
+    };
+    String::from_str(alloc, text)
 }
 
 /// Returns copies of the timers, the expressions of `next` or the crontabs of `cron`.
@@ -181,16 +166,4 @@ fn copies_of(alloc: Global, texts: &[&str]) -> Result<Vec<String>, AllocError>
         copies.push(String::from_str(alloc, text)?)?;
     }
     Ok(copies)
-}
-
-/// Returns the error for arguments that `clap` accepts although they have no verb, or a number of targets that the verb
-/// doesn't accept.
-pub(crate) fn no_question(alloc: Global) -> ArgumentFault
-    ensures text { HasText result }
-    ensures usage { IsUsageOf no_question result }
-{
-    match String::from_str(alloc, NO_QUESTION) {
-        Ok(text) => ArgumentFault::Usage(text),
-        Err(_) => ArgumentFault::NoMemory,
-    }
 }

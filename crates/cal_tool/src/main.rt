@@ -6,11 +6,11 @@ ghost use Rattle.std.specs.Prelude.{◌≡◌, false};
 
 use cal_bytes::{Port, Sink};
 pub use cal_command::{Ask, CommandFault, LocalZone, ZoneItem};
-use cal_machine::HostSystem;
+use cal_machine::HostInputs;
 use cal_options::NOT_UTF_8;
 pub use cal_report::{laws, run};
 pub use cal_request::{Request, RunFault, Status, Verb};
-pub use cal_work::{Ended, LoadFault, Stop, System, load_zone, work, write_stop};
+pub use cal_work::{Ended, Inputs, LoadFault, OpenFault, Stop, load_zone, work, write_stop};
 use std::alloc::Global;
 use std::io::{BufWriter, ErrorKind, IsTerminal};
 use std::process::ExitCode;
@@ -34,10 +34,10 @@ fn main(rt: HostRuntime) -> ExitCode {
         return exit_with(&mut err, &Stop::Run(RunFault::NoMemory));
     };
     let mut out = Port::new(buffer);
-    let system = HostSystem::new(&rt);
+    let mut inputs = HostInputs::new(&rt);
     let ended = work(
         rt.alloc(),
-        &system,
+        &mut inputs,
         arguments.as_slice(),
         &mut out,
         &mut err,

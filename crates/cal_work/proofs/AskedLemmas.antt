@@ -1,18 +1,19 @@
 -- Lemmas for the clause `headline` of `work`: what the arguments ask for. Either they make a request of the system, and
 -- the outcome of the work is the outcome of this request, or the work stops before the run.
 use Rattle.std.proofs.Common.{◌≡◌, ◌⊎◌, inl, inr, ℕ, ℤ, Bool, true, false, List, [], ◌∷◌, Option, None, Some, Result, Ok, Err, IfOk, IfNone, IfSome, refl, sym, ap, subst, ◌∙◌, arith}
-use Rattle.std.specs.Prelude.{IfErr, IsTrue, is_some, nat_le, length, not, ◌&&◌, ◌==◌, ◌≤◌, pos, negsuc, int_lt, if◌then◌else◌, codes, option_map}
+use Rattle.std.specs.Prelude.{IfErr, IsTrue, is_some, not, ◌&&◌, ◌==◌, ◌≤◌, pos, negsuc, int_lt, if◌then◌else◌, codes, option_map}
 use Rattle.std.specs.Option.{option_map_or}
 use Rattle.std.specs.List.{list_any}
 use Rattle.std.specs.FinMap.{empty, insert}
 use Rattle.std.proofs.lemmas.Bool.{false≢true}
-use Rattle.std.proofs.lemmas.Bool.Decides.{nat_tests}
 use Rattle.std.proofs.lemmas.Int.{ints}
 use Rattle.jiff.specs.Types.{TimeZone}
 use Rattle.jiff.specs.Words.{read_whole as rule_read}
 use Rattle.cal_zone.specs.rules.AddedZones.{is_taken}
 use Rattle.cal_zone.specs.rules.Instant.{IsInstant, last_instant}
-use Rattle.cal_zone.specs.rules.ZoneFile.{file_limit, IsFileZone}
+use Rattle.cal_zone.specs.rules.ZoneFile.{IsFileZone}
+use Rattle.cal_bytes.specs.declared.whole.WholeFault.{WholeFault}
+use Rattle.cal_bytes.specs.declared.whole.WholeFault.TheVariants as whole
 use Rattle.cal_zone.specs.rules.ZoneTable.{ZoneMap, zone_named}
 use Rattle.cal_civil.specs.rules.ZoneName.{is_zone_name}
 use Rattle.cal_zone.specs.declared.zone.Zone.{Zone as ClockZone}
@@ -21,18 +22,18 @@ use Rattle.cal_zone.specs.declared.zone_files.LoadFault.{LoadFault}
 use Rattle.cal_zone.specs.declared.zone_files.LoadFault.TheVariants.{ReadFailed, Zone}
 use Rattle.cal_zone.specs.rules.ZoneArgument.{ZoneArgument, in_utc, at_offset, by_rule, of_name}
 use Rattle.cal_command.specs.rules.Ask.{Ask, ZoneItem}
-use Rattle.cal_command.specs.rules.CommandFault.{CommandFault, usage, help, bad_value, bad_iterations, bad_local, bad_now, bad_zones, no_memory, nothing_asked}
-use Rattle.cal_command.specs.rules.CommandLine.{IsAskOf, ask_in, parsed_in, read_options, unless_bad, unless_empty}
+use Rattle.cal_command.specs.rules.CommandFault.{CommandFault, usage, help, bad_value, bad_iterations, bad_local, bad_now, bad_zones, no_memory}
+use Rattle.cal_command.specs.rules.CommandLine.{IsAskOf, ask_in, parsed_in, read_options, unless_bad}
 use Rattle.cal_options.specs.rules.ArgumentFault.{is_of_help}
 use Rattle.cal_options.specs.rules.OptionNumbers.{number_between, present_in}
 use Rattle.cal_command.specs.rules.VerbMatches.{VerbMatches, elapse_option, instant_option}
 use Rattle.cal_options.proofs.NumberLemmas.{number_between-range}
 use Rattle.cal_report.specs.rules.ReportLines.{Report}
 use Rattle.cal_request.specs.rules.Request.{Request}
-use Rattle.cal_work.specs.rules.Outcome.{World, ZoneFound, and_then, asked_at, instant_in, loaded, local_by, or_clock_stop, or_load_stop, outcome, outcome_of, outcome_of_parsed, present_by, run_by, table_by, with_file, with_zone}
+use Rattle.cal_work.specs.rules.Outcome.{World, ZoneFound, and_then, asked_at, instant_in, loaded, local_by, or_clock_stop, or_load_stop, outcome, outcome_of, outcome_of_parsed, present_by, run_by, table_by, with_contents, with_file, with_zone}
 use Rattle.cal_work.specs.rules.ProgramHeadline.{AreZonesOf, IsPresent, IsRequestOf}
 use Rattle.cal_work.specs.rules.Stop.{Stop, load_stop, memory_stop, name_stop, rule_stop, with_line}
-use Rattle.cal_machine.specs.rules.Seen.{Said, ClockShows, FileIs}
+use Rattle.cal_machine.specs.rules.Told.{ClockShows, Contents, FileHolds, Told, Unopened}
 use Rattle.cal_work.specs.rules.FileAnswer.{FileAnswer, Gave}
 use Rattle.cal_work.specs.rules.Works.{Fits, FitsArguments, IsReadZone, ReadsZone, SeesFile, SeesZone, SeesZones}
 
@@ -41,15 +42,14 @@ use Rattle.cal_work.specs.rules.Works.{Fits, FitsArguments, IsReadZone, ReadsZon
 -- if the arguments ask for `ask`, then no other result of parsing them is right, except that memory ran out
 asked_for : (arguments : List (List ℕ)) (ask : Ask) (parsed : Result Ask CommandFault) → IsAskOf arguments (Ok ask) → IsAskOf arguments parsed
     → (parsed ≡ Ok ask) ⊎ (parsed ≡ Err no_memory)
-asked_for arguments ask (Ok other) given is = inl (sym is.1 ∙ given.1)
-asked_for arguments ask (Err (usage text)) given (inl is) =
+asked_for arguments ask (Ok other) given is =
+    let same : ◌≡◌ {A = Option (Result Ask CommandFault)} (Some (Ok other)) (Some (Ok ask)) = sym is.1 ∙ given.1 in inl (cc)
+asked_for arguments ask (Err (usage text)) given is =
     absurd (false≢true (sym (ap (list_any (λ kind. not (is_of_help kind))) given.0) ∙ is.1))
-asked_for arguments ask (Err (usage text)) given (inr is) =
-    let never : ◌≡◌ {A = Result Ask CommandFault} (Ok ask) (Err (usage text)) = sym given.1 ∙ is.1 in cc
 asked_for arguments ask (Err (help text)) given is =
     absurd (false≢true (sym (ap (list_any is_of_help) given.0) ∙ is.1))
 asked_for arguments ask (Err (bad_value message)) given is =
-    let never : ◌≡◌ {A = Result Ask CommandFault} (Ok ask) (Err (bad_value message)) = sym given.1 ∙ is.1 in cc
+    let never : ◌≡◌ {A = Option (Result Ask CommandFault)} (Some (Ok ask)) (Some (Err (bad_value message))) = sym given.1 ∙ is.1 in cc
 asked_for arguments ask (Err no_memory) given is = inr refl
 
 -- ## The instant that `--now` gives
@@ -115,14 +115,9 @@ instant_read found ask h =
       zones = z;
     }) ask (λ i n z l. refl) h)
 
-answer_unless_empty : (texts : List (List ℕ)) (answer : Result Ask CommandFault) (ask : Ask) → unless_empty texts answer ≡ Ok ask → answer ≡ Ok ask
-answer_unless_empty [] answer ask h = cc
-answer_unless_empty (text ∷ texts) answer ask h = h
-
-instant_found : (found : Option VerbMatches) (ask : Ask) → option_map_or (λ (it : VerbMatches). unless_empty it.texts (read_options it)) found (Err nothing_asked) ≡ Ok ask
-    → IfSome ask.now IsInstant
+instant_found : (found : Option VerbMatches) (ask : Ask) → option_map read_options found ≡ Some (Ok ask) → IfSome ask.now IsInstant
 instant_found None ask h = cc
-instant_found (Some found) ask h = instant_read found ask (answer_unless_empty found.texts (read_options found) ask h)
+instant_found (Some found) ask h = let is : read_options found ≡ Ok ask = cc in instant_read found ask is
 
 instant_given : (arguments : List (List ℕ)) (ask : Ask) → IsAskOf arguments (Ok ask) → IfSome ask.now IsInstant
 unfolding ask_in
@@ -156,57 +151,58 @@ loading_fault name (Zone zone.NameTaken) = is_fault _ 2 two
 -- ## The zone files
 
 -- the zone of one file was added to the table `before`, which made it the table `more`
-record IsAdded (gives : Said → Bool) (before : ZoneMap) (item : ZoneItem) (more : ZoneMap) : Type 0 where
+record IsAdded (gives : Told → Bool) (before : ZoneMap) (item : ZoneItem) (more : ZoneMap) : Type 0 where
   bytes : List ℕ
   tz : TimeZone
-  given : IsTrue (gives (FileIs item.path (Ok bytes)))
+  given : IsTrue (gives (FileHolds item.path (Contents (Ok bytes))))
   parsed : IsFileZone item.name bytes tz
   free : is_taken before item.name ≡ false
   is : more ≡ insert before item.name tz
 
-module _ (gives : Said → Bool) (before : ZoneMap) (item : ZoneItem) (more : ZoneMap) where
-  added_free : (bytes : List ℕ) (tz : TimeZone) → IsTrue (gives (FileIs item.path (Ok bytes))) → IsFileZone item.name bytes tz
+module _ (gives : Told → Bool) (before : ZoneMap) (item : ZoneItem) (more : ZoneMap) where
+  added_free : (bytes : List ℕ) (tz : TimeZone) → IsTrue (gives (FileHolds item.path (Contents (Ok bytes)))) → IsFileZone item.name bytes tz
       → (taken : Bool) → is_taken before item.name ≡ taken
       → ◌≡◌ {A = Result ZoneMap LoadFault} (if taken then Err (Zone zone.NameTaken) else Ok (insert before item.name tz)) (Ok more) → IsAdded gives before item more
   added_free bytes tz given is_zone true free h = cc
   added_free bytes tz given is_zone false free h = record { bytes = bytes; tz = tz; given = given; parsed = is_zone; free = free; is = cc }
 
-  added_zone : (bytes : List ℕ) (read : Option TimeZone) → IsTrue (gives (FileIs item.path (Ok bytes)))
+  added_zone : (bytes : List ℕ) (read : Option TimeZone) → IsTrue (gives (FileHolds item.path (Contents (Ok bytes))))
       → IsReadZone item.name bytes read → with_zone before item.name read ≡ Ok more → IsAdded gives before item more
   added_zone bytes None given reads h = cc
   added_zone bytes (Some tz) given reads h = added_free bytes tz given reads (is_taken before item.name) refl h
 
-  added_bytes : (bytes : List ℕ) (read : Option TimeZone) (valid fits : Bool) → is_zone_name item.name ≡ valid → nat_le (length bytes) file_limit ≡ fits
-      → IsTrue (gives (FileIs item.path (Ok bytes))) → ReadsZone item.name (Some (Ok bytes)) read
-      → ◌≡◌ {A = Result ZoneMap LoadFault} (if valid then if fits then with_zone before item.name read else Err (Zone zone.TooLarge) else Err (Zone zone.BadName)) (Ok more)
-      → IsAdded gives before item more
-  added_bytes bytes read true true named small given reads h = added_zone bytes read given (reads named (grind (arith, nat_tests))) h
-  added_bytes bytes read true false named small given reads h = cc
-  added_bytes bytes read false fits named small given reads h = cc
+  added_contents : (read : Result (List ℕ) WholeFault) (tz : Option TimeZone) (valid : Bool) → is_zone_name item.name ≡ valid
+      → IsTrue (gives (FileHolds item.path (Contents read))) → ReadsZone item.name (Some (Contents read)) tz
+      → ◌≡◌ {A = Result ZoneMap LoadFault} (if valid then with_contents before item.name tz read else Err (Zone zone.BadName)) (Ok more) → IsAdded gives before item more
+  added_contents (Ok bytes) tz true named given reads h = added_zone bytes tz given (reads named) h
+  added_contents (Err whole.ReadFailed) tz true named given reads h = cc
+  added_contents (Err whole.TooLarge) tz true named given reads h = cc
+  added_contents (Err whole.NoMemory) tz true named given reads h = cc
+  added_contents read tz false named given reads h = cc
 
-  added_file : (answer : FileAnswer) (read : Option TimeZone) → Gave gives item.path answer → ReadsZone item.name answer read
-      → with_file before item.name read answer ≡ Ok more → IsAdded gives before item more
-  added_file None read given reads h = cc
-  added_file (Some (Err why)) read given reads h = cc
-  added_file (Some (Ok bytes)) read given reads h = added_bytes bytes read (is_zone_name item.name) (nat_le (length bytes) file_limit) refl refl given reads h
+  added_file : (answer : FileAnswer) (tz : Option TimeZone) → Gave gives item.path answer → ReadsZone item.name answer tz
+      → with_file before item.name tz answer ≡ Ok more → IsAdded gives before item more
+  added_file None tz given reads h = cc
+  added_file (Some Unopened) tz given reads h = cc
+  added_file (Some (Contents read)) tz given reads h = added_contents read tz (is_zone_name item.name) refl given reads h
 
   added : (found : ZoneFound) → SeesZone gives item found → loaded before item found ≡ Ok more → IsAdded gives before item more
   unfolding loaded
   added found sees h = added_file found.answer found.zone sees.given sees.reads h
 
 -- the table has the zones of the files, or the work stopped with a fault
-ZonesEnd : (Said → Bool) → ZoneMap → List ZoneItem → Result ZoneMap Stop → Type 0
+ZonesEnd : (Told → Bool) → ZoneMap → List ZoneItem → Result ZoneMap Stop → Type 0
 ZonesEnd gives before items (Ok table) = AreZonesOf gives before items table
 ZonesEnd gives before items (Err stop) = IsFault stop
 
-one_more : (gives : Said → Bool) (before more : ZoneMap) (item : ZoneItem) (items : List ZoneItem) (end : Result ZoneMap Stop) → IsAdded gives before item more
+one_more : (gives : Told → Bool) (before more : ZoneMap) (item : ZoneItem) (items : List ZoneItem) (end : Result ZoneMap Stop) → IsAdded gives before item more
     → ZonesEnd gives more items end → ZonesEnd gives before (item ∷ items) end
 unfolding ZonesEnd
 one_more gives before more item items (Ok table) add rest =
     (add.bytes, add.tz, add.given, add.parsed, add.free, subst (λ start. AreZonesOf gives start items table) add.is rest)
 one_more gives before more item items (Err stop) add rest = rest
 
-file_ends : (gives : Said → Bool) (before : ZoneMap) (item : ZoneItem) (items : List ZoneItem) (found : ZoneFound) (later : List ZoneFound) → SeesZone gives item found
+file_ends : (gives : Told → Bool) (before : ZoneMap) (item : ZoneItem) (items : List ZoneItem) (found : ZoneFound) (later : List ZoneFound) → SeesZone gives item found
     → (r : Result ZoneMap LoadFault) → loaded before item found ≡ r → IfOk r (λ more. SeesZones gives more items later)
     → ((more : ZoneMap) → SeesZones gives more items later → ZonesEnd gives more items (table_by more items later))
     → ZonesEnd gives before (item ∷ items) (and_then (λ more. table_by more items later) (or_load_stop item.name r))
@@ -215,7 +211,7 @@ file_ends gives before item items found later sees (Ok more) is rest next =
     one_more gives before more item items (table_by more items later) (added gives before item more found sees is) (next more rest)
 file_ends gives before item items found later sees (Err fault) is rest next = loading_fault item.name fault
 
-zones_end : (gives : Said → Bool) (before : ZoneMap) (items : List ZoneItem) (found : List ZoneFound) → SeesZones gives before items found
+zones_end : (gives : Told → Bool) (before : ZoneMap) (items : List ZoneItem) (found : List ZoneFound) → SeesZones gives before items found
     → ZonesEnd gives before items (table_by before items found)
 unfolding table_by ZonesEnd
 zones_end gives before [] found sees = refl
@@ -223,12 +219,12 @@ zones_end gives before (item ∷ items) [] sees = absurd sees
 zones_end gives before (item ∷ items) (f ∷ found) sees =
     file_ends gives before item items f found sees.0 (loaded before item f) refl sees.1 (λ more rest. zones_end gives more items found rest)
 
-zones_fault : (gives : Said → Bool) (before : ZoneMap) (items : List ZoneItem) (end : Result ZoneMap Stop) → ZonesEnd gives before items end → IfErr end IsFault
+zones_fault : (gives : Told → Bool) (before : ZoneMap) (items : List ZoneItem) (end : Result ZoneMap Stop) → ZonesEnd gives before items end → IfErr end IsFault
 unfolding ZonesEnd
 zones_fault gives before items (Ok table) h = tt
 zones_fault gives before items (Err stop) h = h
 
-zones_are : (gives : Said → Bool) (before : ZoneMap) (items : List ZoneItem) (end : Result ZoneMap Stop) (table : ZoneMap) → end ≡ Ok table → ZonesEnd gives before items end
+zones_are : (gives : Told → Bool) (before : ZoneMap) (items : List ZoneItem) (end : Result ZoneMap Stop) (table : ZoneMap) → end ≡ Ok table → ZonesEnd gives before items end
     → AreZonesOf gives before items table
 unfolding ZonesEnd
 zones_are gives before items (Ok other) table is h =
@@ -270,7 +266,7 @@ in_range : (secs now : ℤ) (tested : Bool) → (not (int_lt secs (pos 0)) && no
 in_range secs now true is h = (cc, instant_by secs _ _ refl refl is)
 in_range secs now false is h = cc
 
-present_is : (gives : Said → Bool) (given clock : Option ℤ) (now : ℤ) → IfSome given IsInstant → IfNone given (IsTrue (gives (ClockShows clock)))
+present_is : (gives : Told → Bool) (given clock : Option ℤ) (now : ℤ) → IfSome given IsInstant → IfNone given (IsTrue (gives (ClockShows clock)))
     → present_by given clock ≡ Ok now → IsPresent gives given now
 unfolding present_by instant_in
 present_is gives (Some given) clock now instant shown h =
@@ -284,7 +280,7 @@ present_is gives None (Some secs) now instant shown h =
 -- ## All steps together
 
 -- the work ended with the report of the request, or with a stop of the run
-pub record Ran (gives : Said → Bool) (ask : Ask) (world : World) (end : Result Report Stop) : Type 0 where
+pub record Ran (gives : Told → Bool) (ask : Ask) (world : World) (end : Result Report Stop) : Type 0 where
   pub asked : Request
   pub request : IsRequestOf gives ask asked
   pub file : SeesFile gives asked world.file
@@ -295,19 +291,19 @@ pub record Stopped (end : Result Report Stop) : Type 0 where
   pub is : end ≡ Err stop
   pub fault : IsFault stop
 
-unfoldable pub Ends : (Said → Bool) → Ask → World → Result Report Stop → Type 0
+unfoldable pub Ends : (Told → Bool) → Ask → World → Result Report Stop → Type 0
 Ends gives ask world end = Ran gives ask world end ⊎ Stopped end
 
-stops_here : (gives : Said → Bool) (ask : Ask) (world : World) (stop : Stop) → IsFault stop → Ends gives ask world (Err stop)
+stops_here : (gives : Told → Bool) (ask : Ask) (world : World) (stop : Stop) → IsFault stop → Ends gives ask world (Err stop)
 unfolding Ends
 stops_here gives ask world stop fault = inr (record { stop = stop; is = refl; fault = fault })
 
-step : {A : Type 0} (gives : Said → Bool) (ask : Ask) (world : World) (next : A → Result Report Stop) (r : Result A Stop) → IfErr r IsFault
+step : {A : Type 0} (gives : Told → Bool) (ask : Ask) (world : World) (next : A → Result Report Stop) (r : Result A Stop) → IfErr r IsFault
     → ((x : A) → r ≡ Ok x → Ends gives ask world (next x)) → Ends gives ask world (and_then next r)
 step gives ask world next (Ok x) fault h = h x refl
 step gives ask world next (Err stop) fault h = stops_here gives ask world stop fault
 
-ends : (gives : Said → Bool) (ask : Ask) (world : World) → IfSome ask.now IsInstant → Fits gives ask world → Ends gives ask world (outcome_of ask world)
+ends : (gives : Told → Bool) (ask : Ask) (world : World) → IfSome ask.now IsInstant → Fits gives ask world → Ends gives ask world (outcome_of ask world)
 unfolding outcome_of Ends
 ends gives ask world instant fits =
     let zones = zones_end gives empty ask.zones world.zones fits.zones in
@@ -327,11 +323,11 @@ ends gives ask world instant fits =
         zones = zones_are gives empty ask.zones _ table is_table zones;
         local = later.0;
       };
-      file = rw is_now at later.2;
+      file = rw (is_table, is_local, is_now) at fits.file;
       is = refl;
     }))))
 
-ends_by : (gives : Said → Bool) (ask : Ask) (world : World) → IfSome ask.now IsInstant → (parsed : Result Ask CommandFault) → world.parsed ≡ parsed → (parsed ≡ Ok ask) ⊎ (parsed ≡ Err no_memory)
+ends_by : (gives : Told → Bool) (ask : Ask) (world : World) → IfSome ask.now IsInstant → (parsed : Result Ask CommandFault) → world.parsed ≡ parsed → (parsed ≡ Ok ask) ⊎ (parsed ≡ Err no_memory)
     → IfOk parsed (λ a. Fits gives a world) → Ends gives ask world (outcome world)
 unfolding outcome Ends
 ends_by gives ask world instant parsed is (inl h) fits =
@@ -339,7 +335,7 @@ ends_by gives ask world instant parsed is (inl h) fits =
 ends_by gives ask world instant parsed is (inr h) fits =
     subst (λ p. Ends gives ask world (outcome_of_parsed p world)) (sym (is ∙ h)) (stops_here gives ask world memory_stop (is_fault _ 1 one))
 
-pub work_ends : (gives : Said → Bool) (arguments : List (List ℕ)) (ask : Ask) (world : World) → FitsArguments gives arguments world → IsAskOf arguments (Ok ask)
+pub work_ends : (gives : Told → Bool) (arguments : List (List ℕ)) (ask : Ask) (world : World) → FitsArguments gives arguments world → IsAskOf arguments (Ok ask)
     → Ends gives ask world (outcome world)
 work_ends gives arguments ask world fits asks =
     ends_by gives ask world (instant_given arguments ask asks) world.parsed refl (asked_for arguments ask world.parsed asks fits.parsed) fits.fits

@@ -8,7 +8,7 @@ use Rattle.cal_bytes.specs.rules.Output.{Flushes}
 use Rattle.cal_work.specs.rules.Outcome.{outcome, out_text, err_text, ended_status}
 use Rattle.cal_report.specs.rules.ReportLines.{Report}
 use Rattle.cal_work.specs.rules.Stop.{Stop, command_outlet, command_stop, command_text, fault_stop, outlet_of, shown_stop, stop_text}
-use Rattle.cal_machine.specs.rules.Seen.{Said}
+use Rattle.cal_machine.specs.rules.Told.{Told}
 use Rattle.cal_work.specs.computed.WorkSteps.{StopsAs, StopEnds, EndsAs, AnsweredArguments, IsFlushed, ReportsOn, ReportsStop, status_by, WritesOf}
 use Rattle.cal_work.specs.rules.Works.{Reaches, ReportsFault, Works}
 use Rattle.cal_request.specs.declared.request.RunFault.{RunFault}
@@ -141,17 +141,18 @@ err_before r flushed a b text is w = grind (arith, whole_front a b text)
 flushed_status : (r flushed : Result Unit RunFault) (status : ℕ) (expected : Result Report Stop) → IsFlushed r flushed → ended_status r expected ≡ status_by r status → status_by flushed status ≡ ended_status flushed expected
 flushed_status r flushed status expected is same = grind arith
 
-pub works : (gives : Said → Bool) (arguments : List (List ℕ)) (answered : Result Status declared_stop.Stop) (out out1 out2 reached err err1 err2 err3 : Option (List ℕ)) (failed : Bool) (written flushed : Result Unit RunFault) (status last : ℕ)
-    → AnsweredArguments gives arguments answered out out1 err err1
+pub works : (gives : Told → Bool) (is_unread : List ℕ → Bool) (arguments : List (List ℕ)) (answered : Result Status declared_stop.Stop) (out out1 out2 reached err err1 err2 err3 : Option (List ℕ)) (failed : Bool) (written flushed : Result Unit RunFault) (status last : ℕ)
+    → AnsweredArguments gives is_unread arguments answered out out1 err err1
     → ((expected : Result Report Stop) (a b : Option (List ℕ)) → EndsAs answered expected a out1 b err1 → WritesOf written status expected a out2 b err2)
     → ((before : Option (List ℕ)) (text : List ℕ) → Writes before out2 written text → Reaches before reached flushed text)
     → IsFlushed written flushed → ReportsFault err2 err3 failed flushed → last ≡ status_by flushed status
-    → Works gives arguments out reached err err3 failed (record { status = last; written = flushed })
-works gives arguments answered out out1 out2 reached err err1 err2 err3 failed written flushed status last a tells reaches is line same =
+    → Works gives is_unread arguments out reached err err3 failed (record { status = last; written = flushed })
+works gives is_unread arguments answered out out1 out2 reached err err1 err2 err3 failed written flushed status last a tells reaches is line same =
     let w = tells (outcome a.world) out err a.ends in
     record {
       world = a.world;
       fits = a.fits;
+      unread = a.unread;
       status = same ∙ flushed_status written flushed status (outcome a.world) is w.by_status;
       out_bytes = reaches out (out_text (outcome a.world)) w.out_bytes;
       err_bytes = record { before = err2; text_bytes = err_before written flushed err err2 (err_text (outcome a.world)) is w.err_bytes; line = line };

@@ -43,11 +43,9 @@ use Rattle.cal_request.specs.declared.verb.Verb.{Verb}
 use Rattle.cal_request.specs.declared.verb.Verb.TheVariants as verb
 use Rattle.cal_work.specs.declared.arguments_to_bytes.Ended.{Ended}
 use Rattle.cal_work.specs.rules.Outcome.{World, ended_status, err_text, out_text, outcome, outcome_status, run_by, run_on}
-use Rattle.cal_work.specs.rules.ProgramHeadline.{Answers, AnswersTexts, HasReached, IsAnswerToFile, PrintsAnswer, PrintsNothing, timer_read}
+use Rattle.cal_work.specs.rules.ProgramHeadline.{Answers, AnswersTexts, HasReached, IsAnswerToFile, PrintsAnswer, PrintsNothing}
 use Rattle.cal_work.specs.rules.Stop.{Stop, exit_status, memory_stop, unopened_stop}
-use Rattle.cal_machine.specs.declared.tree.Unreadable.{Unreadable}
-use Rattle.cal_machine.specs.declared.tree.Unreadable.TheVariants.{Unopened, Failed, NotUtf8}
-use Rattle.cal_machine.specs.rules.Seen.{Said, FileIs}
+use Rattle.cal_machine.specs.rules.Told.{Contents, FileHolds, Told, Unopened}
 use Rattle.cal_work.specs.rules.FileAnswer.{FileAnswer, Gave}
 use Rattle.cal_work.specs.rules.Works.{Reaches, SeesFile, SeesFor, Works, WritesErr}
 use Rattle.cal_work.proofs.AskedLemmas.{Ends, IsFault, Ran, is_fault, one, work_ends}
@@ -120,7 +118,7 @@ keeps (Some xs) (Some ys) h = h ∙ append-nil xs
 -- ## How the run of a request ends
 
 -- the work ended with a report that answers the request
-record EndsAnswered (gives : Said → Bool) (asked : Request) (taking : Verb) (end : Result Report Stop) : Type 0 where
+record EndsAnswered (gives : Told → Bool) (asked : Request) (taking : Verb) (end : Result Report Stop) : Type 0 where
   base : ℤ
   sought : IsBase asked base
   report : Report
@@ -132,7 +130,7 @@ record EndsBlank (end : Result Report Stop) : Type 0 where
   out : out_text end ≡ []
   failed : (written : Result Unit RunFault) → ended_status written end ≡ 0 → ⊥
 
-EndsRun : (Said → Bool) → Request → Verb → Result Report Stop → Type 0
+EndsRun : (Told → Bool) → Request → Verb → Result Report Stop → Type 0
 EndsRun gives asked taking end = EndsAnswered gives asked taking end ⊎ EndsBlank end
 
 stop_status : (written : Result Unit RunFault) (stop : Stop) → IsFault stop → ended_status written (Err stop) ≡ 0 → ⊥
@@ -180,7 +178,7 @@ answers_texts asked base is based =
       cut = λ front rest read cut any. texts_resume asked read base is based among.0 front rest among.1 any (same_out asked read (Ok []) is ∙ cut);
     }
 
-calendar_ends : (gives : Said → Bool) (asked : Request) (answer : FileAnswer) (based : Result ℤ StampFault) → asked.verb ≡ verb.Calendar → base_in asked ≡ based
+calendar_ends : (gives : Told → Bool) (asked : Request) (answer : FileAnswer) (based : Result ℤ StampFault) → asked.verb ≡ verb.Calendar → base_in asked ≡ based
     → EndsRun gives asked verb.Calendar (run_by asked answer)
 unfolding EndsRun
 calendar_ends gives asked answer (Ok base) is based = inl (record {
@@ -262,45 +260,43 @@ answer_to_file asked base (Ok bytes) (Err line) is based h = (
 answer_to_file asked base (Err fault) (Ok text) is based h = never_read asked base (timer_path asked.texts) text fault h
 answer_to_file asked base (Err fault) (Err line) is based h = refusal_begins asked base (timer_path asked.texts) line (Err fault) h
 
-file_ends_by : (gives : Said → Bool) (asked : Request) (found : Result (List ℕ) Unreadable) (based : Result ℤ StampFault) → asked.verb ≡ verb.Timer
-    → IsTrue (gives (FileIs (timer_path asked.texts) found)) → base_in asked ≡ based
-    → EndsRun gives asked verb.Timer (Ok (report_from (λ base. whole_report (timer_answer asked base (timer_path asked.texts) (timer_read found))) based))
+file_ends_by : (gives : Told → Bool) (asked : Request) (read : Result (List ℕ) WholeFault) (based : Result ℤ StampFault) → asked.verb ≡ verb.Timer
+    → IsTrue (gives (FileHolds (timer_path asked.texts) (Contents read))) → base_in asked ≡ based
+    → EndsRun gives asked verb.Timer (Ok (report_from (λ base. whole_report (timer_answer asked base (timer_path asked.texts) read)) based))
 unfolding EndsRun
-file_ends_by gives asked found (Ok base) is given based = inl (record {
+file_ends_by gives asked read (Ok base) is given based = inl (record {
   base = base;
   sought = base_found asked base based;
-  report = whole_report (timer_answer asked base (timer_path asked.texts) (timer_read found));
+  report = whole_report (timer_answer asked base (timer_path asked.texts) read);
   is = refl;
   answers = record {
-    found = found;
+    read = read;
     given = given;
-    answer = timer_answer asked base (timer_path asked.texts) (timer_read found);
-    right = answer_to_file asked base (timer_read found) _ is based refl;
+    answer = timer_answer asked base (timer_path asked.texts) read;
+    right = answer_to_file asked base read _ is based refl;
     whole = refl;
   };
 })
-file_ends_by gives asked found (Err fault) is given based = inr (refused_blank _)
+file_ends_by gives asked read (Err fault) is given based = inr (refused_blank _)
 
-file_ends : (gives : Said → Bool) (asked : Request) (found : Result (List ℕ) Unreadable) → asked.verb ≡ verb.Timer
-    → IsTrue (gives (FileIs (timer_path asked.texts) found)) → EndsRun gives asked verb.Timer (Ok (file_report asked (timer_path asked.texts) (timer_read found)))
-file_ends gives asked found is given = file_ends_by gives asked found (base_in asked) is given refl
+file_ends : (gives : Told → Bool) (asked : Request) (read : Result (List ℕ) WholeFault) → asked.verb ≡ verb.Timer
+    → IsTrue (gives (FileHolds (timer_path asked.texts) (Contents read))) → EndsRun gives asked verb.Timer (Ok (file_report asked (timer_path asked.texts) read))
+file_ends gives asked read is given = file_ends_by gives asked read (base_in asked) is given refl
 
-given_ends : (gives : Said → Bool) (asked : Request) (answer : FileAnswer) → asked.verb ≡ verb.Timer → Gave gives (timer_path asked.texts) answer
+given_ends : (gives : Told → Bool) (asked : Request) (answer : FileAnswer) → asked.verb ≡ verb.Timer → Gave gives (timer_path asked.texts) answer
     → EndsRun gives asked verb.Timer (run_on asked answer (for_file (timer_path asked.texts)))
 unfolding EndsRun
 given_ends gives asked None is given = inr (stop_blank memory_stop (is_fault _ 1 one))
-given_ends gives asked (Some (Ok bytes)) is given = file_ends gives asked (Ok bytes) is given
-given_ends gives asked (Some (Err Unopened)) is given = inr (stop_blank (unopened_stop (timer_path asked.texts)) (is_fault _ 1 one))
-given_ends gives asked (Some (Err Failed)) is given = file_ends gives asked (Err Failed) is given
-given_ends gives asked (Some (Err NotUtf8)) is given = file_ends gives asked (Err NotUtf8) is given
+given_ends gives asked (Some Unopened) is given = inr (stop_blank (unopened_stop (timer_path asked.texts)) (is_fault _ 1 one))
+given_ends gives asked (Some (Contents read)) is given = file_ends gives asked read is given
 
-timer_ends : (gives : Said → Bool) (asked : Request) (answer : FileAnswer) → asked.verb ≡ verb.Timer → SeesFile gives asked answer → EndsRun gives asked verb.Timer (run_by asked answer)
+timer_ends : (gives : Told → Bool) (asked : Request) (answer : FileAnswer) → asked.verb ≡ verb.Timer → SeesFile gives asked answer → EndsRun gives asked verb.Timer (run_by asked answer)
 unfolding run_by
 timer_ends gives asked answer is sees =
     subst (λ v. EndsRun gives asked verb.Timer (run_on asked answer (kind_by v asked.texts))) (sym is)
     (given_ends gives asked answer is (subst (λ v. SeesFor (kind_by v asked.texts) gives answer) is sees))
 
-run_ends : (gives : Said → Bool) (asked : Request) (answer : FileAnswer) (taking : Verb) → asked.verb ≡ taking → seeks_elapses taking ≡ true → SeesFile gives asked answer
+run_ends : (gives : Told → Bool) (asked : Request) (answer : FileAnswer) (taking : Verb) → asked.verb ≡ taking → seeks_elapses taking ≡ true → SeesFile gives asked answer
     → EndsRun gives asked taking (run_by asked answer)
 run_ends gives asked answer verb.Calendar is seeks sees = calendar_ends gives asked answer (base_in asked) is refl
 run_ends gives asked answer verb.Timer is seeks sees = timer_ends gives asked answer is sees
@@ -317,7 +313,7 @@ nothing ended out reached end blank status o = record {
   prefix = λ front at. none_of front _ blank.out (prefix_of out reached front _ ended.written at o);
 }
 
-answer_is_printed : (gives : Said → Bool) (ask : Ask) (world : World) (ended : Ended) (out reached err err' : Option (List ℕ)) (failed : Bool) (end : Result Report Stop)
+answer_is_printed : (gives : Told → Bool) (ask : Ask) (world : World) (ended : Ended) (out reached err err' : Option (List ℕ)) (failed : Bool) (end : Result Report Stop)
     → (ran : Ran gives ask world end) → (a : EndsAnswered gives ran.asked ask.verb (run_by ran.asked world.file)) → ended.status ≡ ended_status ended.written end
     → Reaches out reached ended.written (out_text end) → WritesErr err err' failed ended.written (err_text end) → PrintsAnswer gives ask ended out reached err err'
 answer_is_printed gives ask world ended out reached err err' failed end ran a status o e =
@@ -340,7 +336,7 @@ answer_is_printed gives ask world ended out reached err err' failed end ran a st
       prefix = λ front at. prefix_of out reached front a.report.out ended.written at o_report;
     }
 
-run_is_printed : (gives : Said → Bool) (ask : Ask) (world : World) (ended : Ended) (out reached err err' : Option (List ℕ)) (failed : Bool) (end : Result Report Stop)
+run_is_printed : (gives : Told → Bool) (ask : Ask) (world : World) (ended : Ended) (out reached err err' : Option (List ℕ)) (failed : Bool) (end : Result Report Stop)
     → (ran : Ran gives ask world end) → EndsRun gives ran.asked ask.verb (run_by ran.asked world.file) → ended.status ≡ ended_status ended.written end
     → Reaches out reached ended.written (out_text end) → WritesErr err err' failed ended.written (err_text end)
     → PrintsAnswer gives ask ended out reached err err' ⊎ PrintsNothing ended out reached
@@ -350,7 +346,7 @@ run_is_printed gives ask world ended out reached err err' failed end ran (inl a)
 run_is_printed gives ask world ended out reached err err' failed end ran (inr blank) status o e =
     inr (nothing ended out reached end (subst EndsBlank (sym ran.is) blank) status o)
 
-end_is_printed : (gives : Said → Bool) (ask : Ask) (world : World) (ended : Ended) (out reached err err' : Option (List ℕ)) (failed : Bool) (end : Result Report Stop)
+end_is_printed : (gives : Told → Bool) (ask : Ask) (world : World) (ended : Ended) (out reached err err' : Option (List ℕ)) (failed : Bool) (end : Result Report Stop)
     → seeks_elapses ask.verb ≡ true → Ends gives ask world end → ended.status ≡ ended_status ended.written end
     → Reaches out reached ended.written (out_text end) → WritesErr err err' failed ended.written (err_text end)
     → PrintsAnswer gives ask ended out reached err err' ⊎ PrintsNothing ended out reached
@@ -360,8 +356,8 @@ end_is_printed gives ask world ended out reached err err' failed end seeks (inl 
 end_is_printed gives ask world ended out reached err err' failed end seeks (inr stopped) status o e =
     inr (nothing ended out reached end (subst EndsBlank (sym stopped.is) (stop_blank stopped.stop stopped.fault)) status o)
 
-pub answers_are_printed : (gives : Said → Bool) (arguments : List (List ℕ)) (ask : Ask) (out reached err err' : Option (List ℕ)) (failed : Bool) (ended : Ended)
-    → Works gives arguments out reached err err' failed ended → IsAskOf arguments (Ok ask) → seeks_elapses ask.verb ≡ true
+pub answers_are_printed : (gives : Told → Bool) (is_unread : List ℕ → Bool) (arguments : List (List ℕ)) (ask : Ask) (out reached err err' : Option (List ℕ)) (failed : Bool) (ended : Ended)
+    → Works gives is_unread arguments out reached err err' failed ended → IsAskOf arguments (Ok ask) → seeks_elapses ask.verb ≡ true
     → PrintsAnswer gives ask ended out reached err err' ⊎ PrintsNothing ended out reached
-answers_are_printed gives arguments ask out reached err err' failed ended w asks seeks =
+answers_are_printed gives is_unread arguments ask out reached err err' failed ended w asks seeks =
     end_is_printed gives ask w.world ended out reached err err' failed (outcome w.world) seeks (work_ends gives arguments ask w.world w.fits asks) w.status w.out_bytes w.err_bytes

@@ -1,25 +1,22 @@
 -- Lemmas on the steps of the work: what all steps found makes up one world, and what was written is the outcome in that
 -- world.
-use Rattle.std.proofs.Common.{◌≡◌, ◌⊎◌, inl, inr, ℕ, ℤ, ◌+◌, ◌<◌, ◌≤◌, Bool, true, false, List, [], ◌∷◌, length, Option, None, Some, Result, Ok, Err, IfOk, IfNone, refl, sym, ap, subst, ◌∙◌, arith, length-append, nat_le}
-use Rattle.std.specs.Prelude.{IsSome, IsTrue, is_some, MatchResult, IsErr}
+use Rattle.std.proofs.Common.{◌≡◌, ℕ, ℤ, ◌<◌, ◌≤◌, Bool, true, false, List, [], ◌∷◌, length, Option, None, Some, Result, Ok, Err, IfOk, IfNone, refl, sym, ap, subst, ◌∙◌, arith, append-nil, nat_le}
+use Rattle.std.specs.Prelude.{IfErr, IsSome, IsTrue, if◌then◌else◌, is_some, MatchResult, IsErr}
 use Rattle.std.specs.FinMap.{empty}
-use Rattle.std.proofs.KnownBytes.{Consumes-whole}
 use Rattle.std.proofs.lemmas.Bool.{false≢true}
 use Rattle.std.proofs.lemmas.Bool.Decides.{nat_tests}
 use Rattle.jiff.specs.Placed.{IsPosixZone}
 use Rattle.jiff.specs.Types.{TimeZone}
 use Rattle.jiff.specs.Words.{read_whole as rule_read}
 use Rattle.cal_bytes.specs.rules.Writes.{AppendsFront, Writes}
-use Rattle.cal_bytes.specs.rules.Whole.{GivesAll, CameBeyond, is_read_failed}
+use Rattle.cal_bytes.specs.rules.Whole.{is_read_failed}
 use Rattle.cal_zone.specs.rules.Zone.{is_utc, utc, zone_of}
-use Rattle.cal_zone.specs.rules.ZoneFile.{file_limit, IsFileFault, IsFileZone}
 use Rattle.cal_zone.specs.rules.ZoneTable.{ZoneMap, zone_named}
-use Rattle.cal_civil.specs.rules.ZoneName.{is_utc_name}
+use Rattle.cal_civil.specs.rules.ZoneName.{is_utc_name, is_zone_name}
 use Rattle.cal_bytes.specs.declared.whole.WholeFault.{WholeFault}
 use Rattle.cal_bytes.specs.declared.whole.WholeFault.TheVariants as whole
 use Rattle.cal_zone.specs.declared.zone.Zone.{Zone as ClockZone}
 use Rattle.cal_zone.specs.declared.zone_fault.ZoneFault.TheVariants as zone
-use Rattle.cal_timer.specs.rules.TimerEntries.{timer_file_limit}
 use Rattle.cal_stamp.specs.declared.fault.StampFault.{StampFault}
 use Rattle.cal_command.specs.rules.Ask.{Ask, ZoneItem}
 use Rattle.cal_command.specs.rules.CommandFault.{CommandFault, usage, help, bad_value, no_memory, shown_fault}
@@ -31,12 +28,9 @@ use Rattle.cal_report.specs.rules.ReportLines.{Report}
 use Rattle.cal_request.specs.rules.RequestKind.{for_file, for_texts, kind_of}
 use Rattle.cal_request.specs.rules.Request.{Request}
 use Rattle.cal_work.specs.rules.Stop.{Stop, command_outlet, command_stop, is_out_failure, is_err_failure, exit_status, load_stop, name_stop, rule_stop, shown_stop, unopened_stop, memory_stop, stops_for_out, stops_for_err}
-use Rattle.cal_machine.specs.declared.tree.Unreadable.{Unreadable}
-use Rattle.cal_machine.specs.declared.tree.Unreadable.TheVariants.{Unopened, Failed, NotUtf8}
-use Rattle.cal_machine.specs.rules.Seen.{Said, ClockShows, FileIs}
-use Rattle.cal_work.specs.rules.FileAnswer.{within}
+use Rattle.cal_machine.specs.rules.Told.{CanGive, ClockShows, Contents, FileHolds, Told, Unopened, input_limit}
 use Rattle.cal_work.specs.computed.WorkSteps.{StopsAs, Loads, ReadsZones, FindsLocal, IsBadRule, EndsAs, Runs, RunsFile, Answered, AnsweredArguments, ran}
-use Rattle.cal_work.specs.rules.Works.{SeesFor, SeesZones}
+use Rattle.cal_work.specs.rules.Works.{LeavesUnread, ReadsZone, SeesFor, SeesZones}
 use Rattle.cal_command.specs.declared.command_fault.CommandFault as declared_fault
 use Rattle.cal_zone.specs.declared.zone_files.LoadFault.{LoadFault}
 use Rattle.cal_zone.specs.declared.zone_files.LoadFault.TheVariants.{ReadFailed, Zone}
@@ -47,7 +41,7 @@ use Rattle.cal_request.specs.declared.request.Status.{Status}
 use Rattle.cal_request.specs.declared.verb.TextVerb.{TextVerb}
 use Rattle.cal_work.specs.declared.stop.Stop as declared_stop
 use Rattle.cal_work.specs.declared.stop.Stop.TheVariants.{Command, Zones, LocalRule, LocalName, Clock, Open, Run}
-use Rattle.cal_report.proofs.AnswerLemmas.{writes_nothing}
+use Rattle.cal_report.proofs.BaseLemmas.{no_base}
 use Rattle.cal_report.proofs.ReportLemmas.{nothing_front}
 
 -- if `r` is an error, `IfOk r P` holds for every `P`
@@ -75,86 +69,90 @@ stop_inside x y a b p q h = cc
 pub stops_other : {A B : Type 0} (stop : declared_stop.Stop) (shown : Stop) → StopsAs {X = A} stop (Err shown) → StopsAs {X = B} stop (Err shown)
 stops_other {A = A} stop shown s = record { before_out = s.before_out; before_err = s.before_err; stopped = refl; same = λ h. ap (λ x. Err x) (stop_inside {A = A} (Err shown) (Err (shown_stop stop)) shown (shown_stop stop) refl refl (s.same h)) }
 
--- ## What the system answered about a file
+-- ## What reading a source to its end can give
 
--- if reading the known bytes `bytes` to the end returned `read`, then `read` is `bytes`, which is within the limit
-all_read : (bytes read : List ℕ) (new : Option (List ℕ)) (limit : ℕ) → GivesAll (Some bytes) new limit read → (read ≡ bytes) × (length bytes ≤ limit)
-all_read bytes read new limit h =
-    let same : read ≡ bytes = Consumes-whole (Some bytes) new read (λ all. read ≡ all) h.taken h.at_end refl in
-    (same, subst (λ all. length all ≤ limit) same h.fits)
+all_fits : (bytes : List ℕ) → nat_le (length bytes) input_limit ≡ true → length bytes ≤ input_limit
+all_fits bytes h = grind (arith, nat_tests)
 
--- if more than `limit` bytes were read from the known bytes `bytes`, then `bytes` is longer than `limit`
-more_read : (bytes : List ℕ) (new : Option (List ℕ)) (limit : ℕ) → CameBeyond (Some bytes) new limit → limit < length bytes
-more_read bytes None limit h = absurd h.taken
-more_read bytes (Some left) limit h =
-    let e : length bytes ≡ length h.front + length left = ap length h.taken ∙ length-append h.front left in
-    let more : limit < length h.front = h.is_more in
-    omega (arith, e, more)
+all_is_more : (bytes : List ℕ) → nat_le (length bytes) input_limit ≡ false → input_limit < length bytes
+all_is_more bytes h = grind (arith, nat_tests)
 
-is_within : (bytes : List ℕ) (limit : ℕ) → length bytes ≤ limit → nat_le (length bytes) limit ≡ true
-is_within bytes limit h = grind (arith, nat_tests)
+-- a result that reading a source to its end can give if reads don't fail
+possible : Option (List ℕ) → Result (List ℕ) WholeFault
+possible None = Ok []
+possible (Some bytes) = if nat_le (length bytes) input_limit then Ok bytes else Err whole.TooLarge
 
-is_beyond : (bytes : List ℕ) (limit : ℕ) → limit < length bytes → nat_le (length bytes) limit ≡ false
-is_beyond bytes limit h = grind (arith, nat_tests)
+possible_by : (bytes : List ℕ) (may_fail fits : Bool) → nat_le (length bytes) input_limit ≡ fits → CanGive (Some bytes) may_fail (if fits then Ok bytes else Err whole.TooLarge)
+possible_by bytes may_fail true is = (Some [], record { taken = sym (append-nil bytes); at_end = refl; fits = all_fits bytes is })
+possible_by bytes may_fail false is = (Some [], record { front = bytes; taken = sym (append-nil bytes); is_more = all_is_more bytes is })
 
-never_within : (bytes : List ℕ) (limit : ℕ) → limit < length bytes → length bytes ≤ limit → ⊥
-never_within bytes limit more h = omega (arith, more, h)
+is_possible : (left : Option (List ℕ)) (may_fail : Bool) → CanGive left may_fail (possible left)
+unfolding possible
+is_possible None may_fail = (None, record { taken = tt; at_end = tt; fits = omega arith })
+is_possible (Some bytes) may_fail = possible_by bytes may_fail _ refl
+
+-- if a read failed, then reads of this source can fail
+can_fail : (may_fail failed : Bool) → (may_fail ≡ false → failed ≡ false) → failed ≡ true → may_fail ≡ true
+can_fail true failed sure is = refl
+can_fail false failed sure is = absurd (false≢true (sym (sure refl) ∙ is))
 
 -- ## Loading the zone files
 
--- the result of loading a zone file with these bytes agrees with the definition `loaded`, as `Loads` says
-pub loads : (gives : Said → Bool) (before after : ZoneMap) (item : ZoneItem) (bytes : List ℕ) (r : Result Unit LoadFault) (new : Option (List ℕ)) (failed : Bool) → IsTrue (gives (FileIs item.path (Ok bytes)))
-    → failed ≡ is_load_read_failed r → failed ≡ false → MatchResult r (λ done. IsLoaded (Some bytes) new before after item.name) (IsLoadFault (Some bytes) new before item.name) → Loads gives before after item r
+-- if the zone's name is invalid, the file isn't passed to `jiff`
+unnamed_reads : (name : List ℕ) (read : Result (List ℕ) WholeFault) → is_zone_name name ≡ false → ReadsZone name (Some (Contents read)) None
+unnamed_reads name (Ok bytes) is = λ named. absurd (false≢true (sym is ∙ named))
+unnamed_reads name (Err fault) is = tt
+
+-- the result of loading a zone file that was opened agrees with the definition `loaded`, as `Loads` says
+pub loads : (gives : Told → Bool) (before after : ZoneMap) (item : ZoneItem) (r : Result Unit LoadFault) (left new : Option (List ℕ)) (may_fail failed : Bool)
+    → ((read : Result (List ℕ) WholeFault) → CanGive left may_fail read → IsTrue (gives (FileHolds item.path (Contents read))))
+    → failed ≡ is_load_read_failed r → (may_fail ≡ false → failed ≡ false) → MatchResult r (λ done. IsLoaded left new before after item.name) (IsLoadFault left new before item.name) → Loads gives before after item r
 unfolding loaded
-loads gives before after item bytes (Ok done) new failed given fails fine h =
-    let read = all_read bytes h.bytes new file_limit h.given in
-    record {
-      found = record { answer = Some (Ok bytes); zone = Some h.zone };
-      sees = record { given = given; reads = λ named fits. subst (λ all. IsFileZone item.name all h.zone) read.0 h.is_zone };
-      loads = rw (h.addable.named, is_within bytes file_limit read.1, h.addable.free) (ap (λ m. Ok m) (sym h.added));
-    }
-loads gives before after item bytes (Err ReadFailed) new failed given fails fine h = absurd (false≢true (sym fine ∙ fails))
-loads gives before after item bytes (Err (Zone zone.BadName)) new failed given fails fine h = record {
-  found = record { answer = Some (Ok bytes); zone = None };
-  sees = record { given = given; reads = λ named fits. absurd (false≢true (sym h.0 ∙ named)) };
+loads gives before after item (Ok done) left new may_fail failed holds fails sure h = record {
+  found = record { answer = Some (Contents (Ok h.bytes)); zone = Some h.zone };
+  sees = record { given = holds (Ok h.bytes) (new, h.given); reads = λ named. h.is_zone };
+  loads = rw (h.addable.named, h.addable.free) (ap (λ m. Ok m) (sym h.added));
+}
+loads gives before after item (Err ReadFailed) left new may_fail failed holds fails sure h = record {
+  found = record { answer = Some (Contents (Err whole.ReadFailed)); zone = None };
+  sees = record { given = holds (Err whole.ReadFailed) (can_fail may_fail failed sure fails); reads = tt };
   loads = rw h.0 refl;
 }
-loads gives before after item bytes (Err (Zone zone.BadRule)) new failed given fails fine h = absurd h
-loads gives before after item bytes (Err (Zone zone.BadFile)) new failed given fails fine h =
-    let read = all_read bytes h.bytes new file_limit h.given in
-    record {
-      found = record { answer = Some (Ok bytes); zone = None };
-      sees = record { given = given; reads = λ named fits. subst (λ all. IsFileFault item.name all zone.BadFile) read.0 h.is_bad };
-      loads = rw (h.is_bad.0.named, is_within bytes file_limit read.1) refl;
-    }
-loads gives before after item bytes (Err (Zone zone.TooLarge)) new failed given fails fine h =
-    let more = more_read bytes new file_limit h.1 in
-    record {
-      found = record { answer = Some (Ok bytes); zone = None };
-      sees = record { given = given; reads = λ named fits. absurd (never_within bytes file_limit more fits) };
-      loads = rw (h.0, is_beyond bytes file_limit more) refl;
-    }
-loads gives before after item bytes (Err (Zone zone.NoMemory)) new failed given fails fine h =
+loads gives before after item (Err (Zone zone.BadName)) left new may_fail failed holds fails sure h = record {
+  found = record { answer = Some (Contents (possible left)); zone = None };
+  sees = record { given = holds (possible left) (is_possible left may_fail); reads = unnamed_reads item.name (possible left) h.0 };
+  loads = rw h.0 refl;
+}
+loads gives before after item (Err (Zone zone.BadRule)) left new may_fail failed holds fails sure h = absurd h
+loads gives before after item (Err (Zone zone.BadFile)) left new may_fail failed holds fails sure h = record {
+  found = record { answer = Some (Contents (Ok h.bytes)); zone = None };
+  sees = record { given = holds (Ok h.bytes) (new, h.given); reads = λ named. h.is_bad };
+  loads = rw h.is_bad.0.named refl;
+}
+loads gives before after item (Err (Zone zone.TooLarge)) left new may_fail failed holds fails sure h = record {
+  found = record { answer = Some (Contents (Err whole.TooLarge)); zone = None };
+  sees = record { given = holds (Err whole.TooLarge) (new, h.1); reads = tt };
+  loads = rw h.0 refl;
+}
+loads gives before after item (Err (Zone zone.NoMemory)) left new may_fail failed holds fails sure h =
     record { found = record { answer = None; zone = None }; sees = record { given = tt; reads = tt }; loads = refl }
-loads gives before after item bytes (Err (Zone zone.NameTaken)) new failed given fails fine h =
-    let read = all_read bytes h.bytes new file_limit h.given in
-    record {
-      found = record { answer = Some (Ok bytes); zone = Some h.zone };
-      sees = record { given = given; reads = λ named fits. subst (λ all. IsFileZone item.name all h.zone) read.0 h.is_zone };
-      loads = rw (h.is_taken.0, is_within bytes file_limit read.1, h.is_taken.1) refl;
-    }
+loads gives before after item (Err (Zone zone.NameTaken)) left new may_fail failed holds fails sure h = record {
+  found = record { answer = Some (Contents (Ok h.bytes)); zone = Some h.zone };
+  sees = record { given = holds (Ok h.bytes) (new, h.given); reads = λ named. h.is_zone };
+  loads = rw (h.is_taken.0, h.is_taken.1) refl;
+}
 
--- if a zone file can't be read, the error `ReadFailed` agrees with the definition `loaded`, as `Loads` says
-pub loads_unread : (gives : Said → Bool) (table : ZoneMap) (item : ZoneItem) (why : Unreadable) → IsTrue (gives (FileIs item.path (Err why))) → Loads gives table table item (Err ReadFailed)
+-- if a zone file can't be opened, the error `ReadFailed` agrees with the definition `loaded`, as `Loads` says
+pub loads_unopened : (gives : Told → Bool) (table : ZoneMap) (item : ZoneItem) → IsTrue (gives (FileHolds item.path Unopened)) → Loads gives table table item (Err ReadFailed)
 unfolding loaded
-loads_unread gives table item why given = record {
-  found = record { answer = Some (Err why); zone = None };
+loads_unopened gives table item given = record {
+  found = record { answer = Some Unopened; zone = None };
   sees = record { given = given; reads = tt };
   loads = refl;
 }
 
--- if memory ran out while a zone file was read, the error `NoMemory` agrees with `loaded`, as `Loads` says
-pub loads_nothing : (gives : Said → Bool) (table : ZoneMap) (item : ZoneItem) → Loads gives table table item (Err (Zone zone.NoMemory))
+-- if memory ran out while a zone file was opened, the error `NoMemory` agrees with `loaded`, as `Loads` says
+pub loads_nothing : (gives : Told → Bool) (table : ZoneMap) (item : ZoneItem) → Loads gives table table item (Err (Zone zone.NoMemory))
 unfolding loaded
 loads_nothing gives table item = record { found = record { answer = None; zone = None }; sees = record { given = tt; reads = tt }; loads = refl }
 
@@ -162,16 +160,16 @@ loads_nothing gives table item = record { found = record { answer = None; zone =
 -- these files. `found` is what it may have found in all files, `items`. Loading `items` with `found` into the empty
 -- table gives the same table or stop as loading `left` with `rest` into `table`. `GoesOn`, the invariant of the loop
 -- over the zone files, says that there is such a `found` for every `rest`.
-pub record Continues (gives : Said → Bool) (items : List ZoneItem) (table : ZoneMap) (left : List ZoneItem) (rest : List ZoneFound) : Type 0 where
+pub record Continues (gives : Told → Bool) (items : List ZoneItem) (table : ZoneMap) (left : List ZoneItem) (rest : List ZoneFound) : Type 0 where
   pub found : List ZoneFound
   pub sees : SeesZones gives empty items found
   pub same : table_by empty items found ≡ table_by table left rest
 
-abbrev pub GoesOn : (Said → Bool) → List ZoneItem → ZoneMap → List ZoneItem → Type 0
+abbrev pub GoesOn : (Told → Bool) → List ZoneItem → ZoneMap → List ZoneItem → Type 0
 GoesOn gives items table left = (rest : List ZoneFound) → SeesZones gives table left rest → Continues gives items table left rest
 
 -- if `GoesOn` holds, and the next file is loaded, then `GoesOn` holds for the new table and the files that remain
-pub next_loaded : (gives : Said → Bool) (items left more : List ZoneItem) (item : ZoneItem) (table after : ZoneMap) → left ≡ item ∷ more → GoesOn gives items table left → Loads gives table after item (Ok tt) → GoesOn gives items after more
+pub next_loaded : (gives : Told → Bool) (items left more : List ZoneItem) (item : ZoneItem) (table after : ZoneMap) → left ≡ item ∷ more → GoesOn gives items table left → Loads gives table after item (Ok tt) → GoesOn gives items after more
 unfolding table_by
 next_loaded gives items left more item table after is goes l rest h =
     let first = rw is at goes in
@@ -181,7 +179,7 @@ next_loaded gives items left more item table after is goes l rest h =
 
 -- if `GoesOn` holds, and the next file can't be loaded, then the stop for this file agrees with `table_by`, as
 -- `ReadsZones` says
-pub next_stops : {T : Type 0} (view : T → ZoneMap) (gives : Said → Bool) (items left more : List ZoneItem) (item : ZoneItem) (table after : ZoneMap) (fault : LoadFault) (stop : declared_stop.Stop) → left ≡ item ∷ more
+pub next_stops : {T : Type 0} (view : T → ZoneMap) (gives : Told → Bool) (items left more : List ZoneItem) (item : ZoneItem) (table after : ZoneMap) (fault : LoadFault) (stop : declared_stop.Stop) → left ≡ item ∷ more
     → GoesOn gives items table left → Loads gives table after item (Err fault) → StopsAs {X = Unit} stop (Err (load_stop item.name fault)) → ReadsZones view gives items (Err stop)
 unfolding table_by
 next_stops view gives items left more item table after fault stop is goes l s =
@@ -192,7 +190,7 @@ next_stops view gives items left more item table after fault stop is goes l s =
     record { found = on.found; sees = on.sees; answers = rw same (stops_other stop (load_stop item.name fault) s) }
 
 -- if `GoesOn` holds, and no files remain, then the table agrees with `table_by`, as `ReadsZones` says
-pub none_left : {T : Type 0} (view : T → ZoneMap) (gives : Said → Bool) (items left : List ZoneItem) (table : ZoneMap) (result : T) → left ≡ [] → table ≡ view result → GoesOn gives items table left → ReadsZones view gives items (Ok result)
+pub none_left : {T : Type 0} (view : T → ZoneMap) (gives : Told → Bool) (items left : List ZoneItem) (table : ZoneMap) (result : T) → left ≡ [] → table ≡ view result → GoesOn gives items table left → ReadsZones view gives items (Ok result)
 unfolding table_by
 none_left view gives items left table result is same goes =
     let on = (rw is at goes) [] tt in
@@ -267,91 +265,90 @@ unread_ends (Err NoMemory) report out out' err err' t = (refl, still_front out o
 file_same : (asked : Request) (name : List ℕ) (fault : StampFault) (a b : Result (List ℕ) WholeFault) → base_in asked ≡ Err fault → file_report asked name a ≡ file_report asked name b
 file_same asked name fault a b is = rw is refl
 
--- if a timer file was read, and the work ended with the outcome for what was read, then `RunsFile` holds
-timer_ends : (gives : Said → Bool) (asked : Request) (name bytes : List ℕ) (r : Result Status RunFault) (out out' err err' : Option (List ℕ)) (read : Result (List ℕ) WholeFault)
-    → IsTrue (gives (FileIs name (Ok bytes))) → within timer_file_limit bytes ≡ read
-    → IfOk r (λ status. status ≡ (file_report asked name read).status) → Writes out out' r (file_report asked name read).out → Writes err err' r (file_report asked name read).err
-    → RunsFile gives asked name (ran r) out out' err err'
-timer_ends gives asked name bytes r out out' err err' read given is status out_bytes err_bytes = record {
-  answer = Some (Ok bytes);
-  given = given;
-  ends = rw is (run_ends r (file_report asked name read) out out' err err' status out_bytes err_bytes);
-}
+-- Suppose that the file `name` is still unread at the end if the base time is invalid.
+module _ (gives : Told → Bool) (is_unread : List ℕ → Bool) (asked : Request) (name : List ℕ) (kept : IfErr (base_in asked) (λ fault. IsTrue (is_unread name))) where
+  -- if `read` is what the timer file holds, and the work ended with the outcome for it, then `RunsFile` holds
+  timer_ends : (r : Result Status RunFault) (out out' err err' : Option (List ℕ)) (read : Result (List ℕ) WholeFault) → IsTrue (gives (FileHolds name (Contents read)))
+      → IfOk r (λ status. status ≡ (file_report asked name read).status) → Writes out out' r (file_report asked name read).out → Writes err err' r (file_report asked name read).err
+      → RunsFile gives is_unread asked name (ran r) out out' err err'
+  timer_ends r out out' err err' read given status out_bytes err_bytes = record {
+    answer = Some (Contents read);
+    given = given;
+    unread = no_base asked (IsTrue (is_unread name)) kept;
+    ends = run_ends r (file_report asked name read) out out' err err' status out_bytes err_bytes;
+  }
 
--- if a timer file with these bytes was read, and what the run wrote and returned agrees with the report for what was
--- read, then the run agrees with `run_on`, as `RunsFile` says
-timer_by : (gives : Said → Bool) (asked : Request) (name bytes : List ℕ) (r : Result Status RunFault) (new : Option (List ℕ)) (failed : Bool) (out out' err err' : Option (List ℕ)) (read : Result (List ℕ) WholeFault) (base : Result ℤ StampFault)
-    → base_in asked ≡ base → IsTrue (gives (FileIs name (Ok bytes))) → failed ≡ false
-    → failed ≡ is_read_failed read → ReadsFile base (Some bytes) new read → IsReported r out out' err err' read (file_report asked name read) → RunsFile gives asked name (ran r) out out' err err'
-timer_by gives asked name bytes r new failed out out' err err' (Ok all) (Ok base) based given fine fails input t =
-    let read = all_read bytes all new timer_file_limit input in
-    timer_ends gives asked name bytes r out out' err err' (Ok all) given (rw (is_within bytes timer_file_limit read.1) (ap (λ b. Ok b) (sym read.0))) t.status t.out t.err
-timer_by gives asked name bytes r new failed out out' err err' (Err whole.ReadFailed) (Ok base) based given fine fails input t =
-    absurd (false≢true (sym fine ∙ fails))
-timer_by gives asked name bytes r new failed out out' err err' (Err whole.TooLarge) (Ok base) based given fine fails input t =
-    timer_ends gives asked name bytes r out out' err err' (Err whole.TooLarge) given (rw (is_beyond bytes timer_file_limit (more_read bytes new timer_file_limit input)) refl) t.status t.out t.err
-timer_by gives asked name bytes r new failed out out' err err' (Err whole.NoMemory) (Ok base) based given fine fails input t =
-    record { answer = None; given = tt; ends = unread_ends r _ out out' err err' t }
-timer_by gives asked name bytes r new failed out out' err err' read (Err fault) based given fine fails input t =
-    let ended = rw (input.1, file_same asked name fault (Ok []) (within timer_file_limit bytes) based) at t in
-    timer_ends gives asked name bytes r out out' err err' (within timer_file_limit bytes) given refl ended.status ended.out ended.err
+  -- if a timer file was opened, and what the run wrote and returned agrees with the report for what was read, then the
+  -- run agrees with `run_on`, as `RunsFile` says
+  timer_by : (r : Result Status RunFault) (left new : Option (List ℕ)) (may_fail failed : Bool) (out out' err err' : Option (List ℕ)) (read : Result (List ℕ) WholeFault) (base : Result ℤ StampFault)
+      → base_in asked ≡ base → ((read : Result (List ℕ) WholeFault) → CanGive left may_fail read → IsTrue (gives (FileHolds name (Contents read))))
+      → failed ≡ is_read_failed read → (may_fail ≡ false → failed ≡ false) → ReadsFile base left new read → IsReported r out out' err err' read (file_report asked name read)
+      → RunsFile gives is_unread asked name (ran r) out out' err err'
+  timer_by r left new may_fail failed out out' err err' (Ok all) (Ok base) based holds fails sure input t =
+      timer_ends r out out' err err' (Ok all) (holds (Ok all) (new, input)) t.status t.out t.err
+  timer_by r left new may_fail failed out out' err err' (Err whole.ReadFailed) (Ok base) based holds fails sure input t =
+      timer_ends r out out' err err' (Err whole.ReadFailed) (holds (Err whole.ReadFailed) (can_fail may_fail failed sure fails)) t.status t.out t.err
+  timer_by r left new may_fail failed out out' err err' (Err whole.TooLarge) (Ok base) based holds fails sure input t =
+      timer_ends r out out' err err' (Err whole.TooLarge) (holds (Err whole.TooLarge) (new, input)) t.status t.out t.err
+  timer_by r left new may_fail failed out out' err err' (Err whole.NoMemory) (Ok base) based holds fails sure input t =
+      record { answer = None; given = tt; unread = tt; ends = unread_ends r _ out out' err err' t }
+  timer_by r left new may_fail failed out out' err err' read (Err fault) based holds fails sure input t =
+      let ended = rw (input.1, file_same asked name fault (Ok []) (possible left) based) at t in
+      timer_ends r out out' err err' (possible left) (holds (possible left) (is_possible left may_fail)) ended.status ended.out ended.err
 
-pub timer_runs : (gives : Said → Bool) (asked : Request) (name bytes : List ℕ) (r : Result Status RunFault) (new : Option (List ℕ)) (failed : Bool) (out out' err err' : Option (List ℕ)) (read : Result (List ℕ) WholeFault)
-    → IsTrue (gives (FileIs name (Ok bytes))) → failed ≡ false
-    → failed ≡ is_read_failed read → ReadsFile (base_in asked) (Some bytes) new read → IsReported r out out' err err' read (file_report asked name read) → RunsFile gives asked name (ran r) out out' err err'
-timer_runs gives asked name bytes r new failed out out' err err' read given fine fails input t =
-    timer_by gives asked name bytes r new failed out out' err err' read (base_in asked) refl given fine fails input t
+  pub timer_runs : (r : Result Status RunFault) (left new : Option (List ℕ)) (may_fail failed : Bool) (out out' err err' : Option (List ℕ)) (read : Result (List ℕ) WholeFault)
+      → ((read : Result (List ℕ) WholeFault) → CanGive left may_fail read → IsTrue (gives (FileHolds name (Contents read))))
+      → failed ≡ is_read_failed read → (may_fail ≡ false → failed ≡ false) → ReadsFile (base_in asked) left new read → IsReported r out out' err err' read (file_report asked name read)
+      → RunsFile gives is_unread asked name (ran r) out out' err err'
+  timer_runs r left new may_fail failed out out' err err' read holds fails sure input t =
+      timer_by r left new may_fail failed out out' err err' read (base_in asked) refl holds fails sure input t
 
--- if a timer file was opened but can't be read, and what the run wrote and returned agrees with the report of this
--- error, then the run agrees with `run_on`, as `RunsFile` says
-pub unread_runs : (gives : Said → Bool) (asked : Request) (name : List ℕ) (why : Unreadable) (r : Result Status RunFault) (out err err' : Option (List ℕ)) → (why ≡ Failed) ⊎ (why ≡ NotUtf8) → IsTrue (gives (FileIs name (Err why)))
-    → IfOk r (λ status. status ≡ (file_report asked name (Err whole.ReadFailed)).status) → (file_report asked name (Err whole.ReadFailed)).out ≡ [] → Writes err err' r (file_report asked name (Err whole.ReadFailed)).err
-    → RunsFile gives asked name (ran r) out out err err'
-unread_runs gives asked name why r out err err' opened given status silent err_bytes = record {
-  answer = Some (Err why);
-  given = given;
-  ends = elim opened [
-    | inl is ↦ rw is (run_ends r (file_report asked name (Err whole.ReadFailed)) out out err err' status (subst (Writes out out r) (sym silent) (writes_nothing out r)) err_bytes)
-    | inr is ↦ rw is (run_ends r (file_report asked name (Err whole.ReadFailed)) out out err err' status (subst (Writes out out r) (sym silent) (writes_nothing out r)) err_bytes)
-  ];
-}
+-- if `opens` is true of a state of the inputs, and the state stays the same if `r` is an error, then `opens` is true of
+-- the new state if `r` is an error
+pub stays_open : {S T E : Type 0} (opens : S → List ℕ → Bool) (old new : S) (path : List ℕ) (r : Result T E) → IsTrue (opens old path) → IfErr r (λ fault. new ≡ old) → IfErr r (λ fault. IsTrue (opens new path))
+stays_open opens old new path (Ok x) before same = tt
+stays_open opens old new path (Err fault) before same = subst (λ state. IsTrue (opens state path)) (sym same) before
 
 -- if the timer file can't be opened, and nothing was written, then the stop for this file agrees with `run_on`
-pub file_stops : (gives : Said → Bool) (asked : Request) (name : List ℕ) (stop : declared_stop.Stop) (out err : Option (List ℕ)) → IsTrue (gives (FileIs name (Err Unopened))) → StopsAs {X = Unit} stop (Err (unopened_stop name))
-    → RunsFile gives asked name (Err stop) out out err err
-file_stops gives asked name stop out err given s = record {
-  answer = Some (Err Unopened);
+pub file_stops : (gives : Told → Bool) (is_unread : List ℕ → Bool) (asked : Request) (name : List ℕ) (stop : declared_stop.Stop) (out err : Option (List ℕ)) → IsTrue (gives (FileHolds name Unopened)) → StopsAs {X = Unit} stop (Err (unopened_stop name))
+    → RunsFile gives is_unread asked name (Err stop) out out err err
+file_stops gives is_unread asked name stop out err given s = record {
+  answer = Some Unopened;
   given = given;
+  unread = tt;
   ends = early stop (Err (unopened_stop name)) out err (stops_other stop (unopened_stop name) s);
 }
 
--- if memory ran out while the timer file was read, and nothing was written, then this agrees with `run_on`
-pub memory_stops : (gives : Said → Bool) (asked : Request) (name : List ℕ) (out err : Option (List ℕ)) → RunsFile gives asked name (Err (Run NoMemory)) out out err err
-memory_stops gives asked name out err = record {
+-- if memory ran out while the timer file was opened, and nothing was written, then this agrees with `run_on`
+pub memory_stops : (gives : Told → Bool) (is_unread : List ℕ → Bool) (asked : Request) (name : List ℕ) (out err : Option (List ℕ)) → RunsFile gives is_unread asked name (Err (Run NoMemory)) out out err err
+memory_stops gives is_unread asked name out err = record {
   answer = None;
   given = tt;
+  unread = tt;
   ends = early (Run NoMemory) (Err memory_stop) out err (is_stop (Run NoMemory) memory_stop refl refl refl);
 }
 
 -- if a request is for a timer file, and the run for this file agrees with `run_on`, then it agrees with `run_by`
-pub runs_file : (gives : Said → Bool) (asked : Request) (name : List ℕ) (result : Result Status declared_stop.Stop) (out out' err err' : Option (List ℕ)) → for_file name ≡ kind_of asked
-    → RunsFile gives asked name result out out' err err' → Runs gives asked result out out' err err'
+pub runs_file : (gives : Told → Bool) (is_unread : List ℕ → Bool) (asked : Request) (name : List ℕ) (result : Result Status declared_stop.Stop) (out out' err err' : Option (List ℕ)) → for_file name ≡ kind_of asked
+    → RunsFile gives is_unread asked name result out out' err err' → Runs gives is_unread asked result out out' err err'
 unfolding run_by
-runs_file gives asked name result out out' err err' is r = record {
+runs_file gives is_unread asked name result out out' err err' is r = record {
   answer = r.answer;
   sees = subst (λ kind. SeesFor kind gives r.answer) is r.given;
+  unread = subst (λ kind. LeavesUnread is_unread asked kind r.answer) is r.unread;
   ends = subst (λ kind. EndsAs result (run_on asked r.answer kind) out out' err err') is r.ends;
 }
 
 -- if the request is for texts, and the run wrote and returned what their report says, then the run agrees with
 -- `run_by`, as `Runs` says
-pub texts_run : (gives : Said → Bool) (asked : Request) (verb : TextVerb) (texts : List (List ℕ)) (r : Result Status RunFault) (out out' err err' : Option (List ℕ)) → for_texts verb texts ≡ kind_of asked
+pub texts_run : (gives : Told → Bool) (is_unread : List ℕ → Bool) (asked : Request) (verb : TextVerb) (texts : List (List ℕ)) (r : Result Status RunFault) (out out' err err' : Option (List ℕ)) → for_texts verb texts ≡ kind_of asked
     → IfOk r (λ status. status ≡ (texts_report asked verb texts).status) → Writes out out' r (texts_report asked verb texts).out → Writes err err' r (texts_report asked verb texts).err
-    → Runs gives asked (ran r) out out' err err'
+    → Runs gives is_unread asked (ran r) out out' err err'
 unfolding run_by
-texts_run gives asked verb texts r out out' err err' is status out_bytes err_bytes = record {
+texts_run gives is_unread asked verb texts r out out' err err' is status out_bytes err_bytes = record {
   answer = None;
   sees = subst (λ kind. SeesFor kind gives None) is tt;
+  unread = subst (λ kind. LeavesUnread is_unread asked kind None) is tt;
   ends = subst (λ kind. EndsAs (ran r) (run_on asked None kind) out out' err err') is (run_ends r (texts_report asked verb texts) out out' err err' status out_bytes err_bytes);
 }
 
@@ -359,54 +356,75 @@ texts_run gives asked verb texts r out out' err err' is status out_bytes err_byt
 --
 -- The work stops at the zone files, at the local zone or at the present instant, or it gets to the run.
 
-module _ (gives : Said → Bool) (ask : Ask) (stop : declared_stop.Stop) (out err : Option (List ℕ)) where
-  pub zones_stop : ReadsZones (λ table. table) gives ask.zones (Err stop) → Answered gives ask (Err stop) out out err err
+module _ (gives : Told → Bool) (is_unread : List ℕ → Bool) (ask : Ask) (stop : declared_stop.Stop) (out err : Option (List ℕ)) where
+  pub zones_stop : ReadsZones (λ table. table) gives ask.zones (Err stop) → Answered gives is_unread ask (Err stop) out out err err
   unfolding outcome_of
   zones_stop z = record {
     world = record { parsed = Ok ask; zones = z.found; local = utc; clock = None; file = None };
-    fits = record { zones = z.sees; after = no_ok (table_by empty ask.zones z.found) _ z.answers.stopped };
+    fits = record {
+      zones = z.sees;
+      after = no_ok (table_by empty ask.zones z.found) _ z.answers.stopped;
+      file = no_ok (table_by empty ask.zones z.found) _ z.answers.stopped;
+    };
+    unread = no_ok (table_by empty ask.zones z.found) _ z.answers.stopped;
     ends = early stop _ out err (stops stop _ (table_by empty ask.zones z.found) z.answers);
   }
 
-  pub local_stops : (table : ZoneMap) (zone : ClockZone) → ReadsZones (λ table. table) gives ask.zones (Ok table) → StopsAs stop (local_by ask.local table zone) → Answered gives ask (Err stop) out out err err
+  pub local_stops : (table : ZoneMap) (zone : ClockZone) → ReadsZones (λ table. table) gives ask.zones (Ok table) → StopsAs stop (local_by ask.local table zone) → Answered gives is_unread ask (Err stop) out out err err
   unfolding outcome_of
   local_stops table zone z s = record {
     world = record { parsed = Ok ask; zones = z.found; local = zone; clock = None; file = None };
-    fits = record { zones = z.sees; after = rw z.answers (no_ok (local_by ask.local table zone) _ s.stopped) };
+    fits = record {
+      zones = z.sees;
+      after = rw z.answers (no_ok (local_by ask.local table zone) _ s.stopped);
+      file = rw z.answers (no_ok (local_by ask.local table zone) _ s.stopped);
+    };
+    unread = rw z.answers (no_ok (local_by ask.local table zone) _ s.stopped);
     ends = early stop _ out err (rw z.answers (stops stop _ (local_by ask.local table zone) s));
   }
 
   pub clock_stops : (table : ZoneMap) (local : ClockZone) → ReadsZones (λ table. table) gives ask.zones (Ok table) → FindsLocal (λ zone. zone) ask.local table (Ok local)
-      → (clock : Option ℤ) → IfNone ask.now (IsTrue (gives (ClockShows clock))) → StopsAs stop (present_by ask.now clock) → Answered gives ask (Err stop) out out err err
+      → (clock : Option ℤ) → IfNone ask.now (IsTrue (gives (ClockShows clock))) → StopsAs stop (present_by ask.now clock) → Answered gives is_unread ask (Err stop) out out err err
   unfolding outcome_of
   clock_stops table local z l clock is_time s =
       let found = rw l.answers at l.is_local in
       record {
         world = record { parsed = Ok ask; zones = z.found; local = l.zone; clock = clock; file = None };
-        fits = record { zones = z.sees; after = rw (z.answers, l.answers) (found, is_time, no_ok (present_by ask.now clock) _ s.stopped) };
+        fits = record {
+          zones = z.sees;
+          after = rw (z.answers, l.answers) (found, is_time);
+          file = rw (z.answers, l.answers) (no_ok (present_by ask.now clock) _ s.stopped);
+        };
+        unread = rw (z.answers, l.answers) (no_ok (present_by ask.now clock) _ s.stopped);
         ends = early stop _ out err (rw (z.answers, l.answers) (stops stop _ (present_by ask.now clock) s));
       }
 
-pub ran_whole : (gives : Said → Bool) (ask : Ask) (result : Result Status declared_stop.Stop) (out out' err err' : Option (List ℕ)) (table : ZoneMap) (local : ClockZone) (now : ℤ)
+pub ran_whole : (gives : Told → Bool) (is_unread : List ℕ → Bool) (ask : Ask) (result : Result Status declared_stop.Stop) (out out' err err' : Option (List ℕ)) (table : ZoneMap) (local : ClockZone) (now : ℤ)
     → ReadsZones (λ table. table) gives ask.zones (Ok table) → FindsLocal (λ zone. zone) ask.local table (Ok local)
     → (clock : Option ℤ) → IfNone ask.now (IsTrue (gives (ClockShows clock))) → present_by ask.now clock ≡ Ok now
-    → Runs gives (asked_at ask table local now) result out out' err err' → Answered gives ask result out out' err err'
+    → Runs gives is_unread (asked_at ask table local now) result out out' err err' → Answered gives is_unread ask result out out' err err'
 unfolding outcome_of
-ran_whole gives ask result out out' err err' table local now z l clock is_time is_now r =
+ran_whole gives is_unread ask result out out' err err' table local now z l clock is_time is_now r =
     let found = rw l.answers at l.is_local in
     record {
       world = record { parsed = Ok ask; zones = z.found; local = l.zone; clock = clock; file = r.answer };
-      fits = record { zones = z.sees; after = rw (z.answers, l.answers) (found, is_time, rw is_now r.sees) };
+      fits = record {
+        zones = z.sees;
+        after = rw (z.answers, l.answers) (found, is_time);
+        file = rw (z.answers, l.answers, is_now) r.sees;
+      };
+      unread = rw (z.answers, l.answers, is_now) r.unread;
       ends = rw (z.answers, l.answers, is_now) r.ends;
     }
 
 -- if the arguments were accepted, and the work that they ask for agrees with `outcome_of` (`Answered`), then the whole
 -- work agrees with `outcome` (`AnsweredArguments`)
-pub arguments_answered : (gives : Said → Bool) (arguments : List (List ℕ)) (ask : Ask) (result : Result Status declared_stop.Stop) (out out' err err' : Option (List ℕ)) → IsAskOf arguments (Ok ask) → Answered gives ask result out out' err err' → AnsweredArguments gives arguments result out out' err err'
+pub arguments_answered : (gives : Told → Bool) (is_unread : List ℕ → Bool) (arguments : List (List ℕ)) (ask : Ask) (result : Result Status declared_stop.Stop) (out out' err err' : Option (List ℕ)) → IsAskOf arguments (Ok ask) → Answered gives is_unread ask result out out' err err' → AnsweredArguments gives is_unread arguments result out out' err err'
 unfolding outcome outcome_of
-arguments_answered gives arguments ask result out out' err err' asks a = record {
+arguments_answered gives is_unread arguments ask result out out' err err' asks a = record {
   world = record { parsed = Ok ask; zones = a.world.zones; local = a.world.local; clock = a.world.clock; file = a.world.file };
-  fits = record { parsed = asks; fits = record { zones = a.fits.zones; after = a.fits.after } };
+  fits = record { parsed = asks; fits = record { zones = a.fits.zones; after = a.fits.after; file = a.fits.file } };
+  unread = a.unread;
   ends = a.ends;
 }
 
@@ -422,10 +440,11 @@ command_stops fault = let apart = no_output (shown_fault fault) in is_stop (Comm
 
 -- if the arguments were rejected or ask for help, and nothing was written, then the stop for the arguments agrees with
 -- `outcome` (`AnsweredArguments`)
-pub arguments_refused : (gives : Said → Bool) (arguments : List (List ℕ)) (fault : declared_fault.CommandFault) (out err : Option (List ℕ)) → IsAskOf arguments (Err (shown_fault fault)) → AnsweredArguments gives arguments (Err (Command fault)) out out err err
+pub arguments_refused : (gives : Told → Bool) (is_unread : List ℕ → Bool) (arguments : List (List ℕ)) (fault : declared_fault.CommandFault) (out err : Option (List ℕ)) → IsAskOf arguments (Err (shown_fault fault)) → AnsweredArguments gives is_unread arguments (Err (Command fault)) out out err err
 unfolding outcome
-arguments_refused gives arguments fault out err asks = record {
+arguments_refused gives is_unread arguments fault out err asks = record {
   world = record { parsed = Err (shown_fault fault); zones = []; local = utc; clock = None; file = None };
   fits = record { parsed = asks; fits = tt };
+  unread = tt;
   ends = (command_stops fault, refl, refl);
 }

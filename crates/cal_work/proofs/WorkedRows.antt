@@ -35,22 +35,18 @@ use Rattle.cal_request.specs.declared.request.Status.TheVariants.{Fine, Refused}
 use Rattle.cal_request.specs.declared.verb.Verb.TheVariants.{Calendar}
 use Rattle.cal_command.proofs.WorkedRows.{daily_asked, daily_taken}
 use Rattle.cal_command.specs.rules.WorkedArguments.{daily_arguments, daily_ask}
-use Rattle.cal_machine.specs.declared.tree.Unreadable.{Unreadable}
-use Rattle.cal_machine.specs.declared.tree.Unreadable.TheVariants.{Unopened, Failed, NotUtf8}
-use Rattle.cal_machine.specs.rules.Seen.{ClockShows, FileIs}
+use Rattle.cal_machine.specs.rules.Told.{ClockShows, Contents, FileFound, FileHolds, Unopened}
 use Rattle.cal_work.specs.declared.arguments_to_bytes.Ended.{Ended}
 use Rattle.cal_work.specs.rules.Outcome.{World, asked_at, ended_status, err_text, instant_in, local_by, out_text, outcome, outcome_of, present_by, run_by, table_by}
 use Rattle.cal_work.specs.rules.Stop.{Stop, exit_status, memory_stop}
-use Rattle.cal_work.specs.rules.WorkLaw.{IsFixed, IsOrMemoryStop, bare_gives, bare_machine, daily_world, fine_end, fixed_outcome, fixed_world, fixed_zones}
-use Rattle.cal_work.specs.rules.Works.{FitsArguments, Works, WritesErr}
+use Rattle.cal_work.specs.rules.WorkLaw.{IsFixed, IsOrMemoryStop, bare_gives, bare_files, daily_world, fine_end, fixed_outcome, fixed_world, fixed_zones}
+use Rattle.cal_work.specs.rules.Works.{FitsArguments, LeavesFileUnread, Works, WritesErr}
 use Rattle.cal_work.proofs.LawLemmas.{fixed_decides}
 
-bare_file : (path : List ℕ) (answer : Result (List ℕ) Unreadable) → IsTrue (bare_gives (FileIs path answer)) → answer ≡ Err Unopened
+bare_file : (path : List ℕ) (found : FileFound) → IsTrue (bare_gives (FileHolds path found)) → found ≡ Unopened
 unfolding bare_gives
-bare_file path (Ok bytes) h = absurd (false≢true h)
-bare_file path (Err Unopened) h = refl
-bare_file path (Err Failed) h = absurd (false≢true h)
-bare_file path (Err NotUtf8) h = absurd (false≢true h)
+bare_file path Unopened h = refl
+bare_file path (Contents read) h = absurd (false≢true h)
 
 bare_time : (shown : Option ℤ) → IsTrue (bare_gives (ClockShows shown)) → shown ≡ Some (pos 0)
 unfolding bare_gives
@@ -59,12 +55,16 @@ bare_time (Some (pos zero)) h = refl
 bare_time (Some (pos (suc n))) h = absurd (false≢true h)
 bare_time (Some (negsuc n)) h = absurd (false≢true h)
 
-pub bare_fixed : IsFixed bare_gives bare_machine (Some (pos 0))
+pub bare_fixed : IsFixed bare_gives bare_files (Some (pos 0))
 bare_fixed = record { files = bare_file; time = bare_time }
 
 pub bare_fits : FitsArguments bare_gives daily_arguments daily_world
 unfolding bare_gives instant_in local_by present_by table_by
-bare_fits = record { parsed = daily_asked; fits = record { zones = tt; after = (refl, refl, tt) } }
+bare_fits = record { parsed = daily_asked; fits = record { zones = tt; after = (refl, refl); file = tt } }
+
+daily_unread : (is_unread : List ℕ → Bool) → LeavesFileUnread is_unread daily_ask daily_world
+unfolding instant_in local_by present_by table_by
+daily_unread is_unread = tt
 
 -- ## A run to which the clause `headline` applies
 
@@ -122,7 +122,7 @@ unfolding daily_report daily_request outcome outcome_of table_by local_by presen
 daily_outcome = refl
 
 -- the only outcome of `calendar daily` on this system, whatever the world is
-daily_known : (world : World) → fixed_outcome bare_machine (Some (pos 0)) (Ok daily_ask) world ≡ Ok daily_report
+daily_known : (world : World) → fixed_outcome bare_files (Some (pos 0)) (Ok daily_ask) world ≡ Ok daily_report
 unfolding daily_report daily_request outcome outcome_of table_by local_by present_by instant_in run_by report fixed_world fixed_zones
 daily_known world = refl
 
@@ -133,10 +133,11 @@ fine_status Refused is = cc
 appended : (text : List ℕ) → text ≡ [] → Appends (Some []) (Some []) text
 appended text none = sym none
 
-pub daily_works : Works bare_gives daily_arguments (Some []) (Some daily_report.out) (Some []) (Some []) false fine_end
-daily_works = record {
+pub daily_works : (is_unread : List ℕ → Bool) → Works bare_gives is_unread daily_arguments (Some []) (Some daily_report.out) (Some []) (Some []) false fine_end
+daily_works is_unread = record {
   world = daily_world;
   fits = bare_fits;
+  unread = daily_unread is_unread;
   status = sym (ap (ended_status fine_end.written) daily_outcome ∙ fine_status daily_report.status daily_fine.status);
   out_bytes = ap out_text (sym daily_outcome);
   err_bytes = record {
@@ -156,9 +157,8 @@ ends_fine_or_full err err' failed status (Ok done) end all (inr full) at_end e =
     inr (subst (Appends err err') (ap err_text full) (Appends-kept err e.before err' _ e.text_bytes e.line))
 ends_fine_or_full err err' failed status (Err fault) end all same at_end e = cc
 
-pub daily_is_printed : (out reached err err' : Option (List ℕ)) (failed : Bool) (ended : Ended) → Works bare_gives daily_arguments out reached err err' failed ended
+pub daily_is_printed : (is_unread : List ℕ → Bool) (out reached err err' : Option (List ℕ)) (failed : Bool) (ended : Ended) → Works bare_gives is_unread daily_arguments out reached err err' failed ended
     → ended.written ≡ Ok tt → (ended.status ≡ 0) ⊎ Appends err err' memory_stop.err
-daily_is_printed out reached err err' failed ended w all =
-    let decided = fixed_decides bare_gives bare_machine (Some (pos 0)) bare_fixed daily_arguments w.world daily_taken w.fits in
-    let answered = subst (λ answer. IsOrMemoryStop (outcome w.world) (fixed_outcome bare_machine (Some (pos 0)) answer w.world)) daily_asked.1 decided in
+daily_is_printed is_unread out reached err err' failed ended w all =
+    let answered = fixed_decides bare_gives bare_files (Some (pos 0)) bare_fixed daily_arguments (Ok daily_ask) w.world daily_taken daily_asked.1 w.fits in
     ends_fine_or_full err err' failed ended.status ended.written (outcome w.world) all (subst (IsOrMemoryStop (outcome w.world)) (daily_known w.world) answered) w.status w.err_bytes

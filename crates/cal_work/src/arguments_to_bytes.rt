@@ -1,7 +1,8 @@
 //! The program's whole work, from the arguments to the bytes on both outputs and the exit status (systemd-analyze(1)).
 //!
 //! The order is: the arguments, the zone files one after another, the local zone, the clock (unless `--now` is given),
-//! the timer file, and the run. The first step that fails ends the work; the steps after it aren't done.
+//! opening the timer file, and the run, which reads the base time first and then the timer file. The first step that
+//! fails ends the work; the steps after it aren't done.
 
 ghost use Rattle.std.specs.Prelude.{◌≡◌, ◌⊎◌, ℕ, List, Option, Result, Ok, Err, Some, None, true, false, is_err, map, option_map, IfOk, IfErr};
 ghost use Rattle.cal_bytes.specs.rules.Writes.{Writes};
@@ -21,12 +22,11 @@ ghost use Rattle.cal_work.specs.rules.Stop.{stops_for_out, stops_for_err, load_s
 ghost use Rattle.cal_work.specs.computed.WorkSteps.{is_out_cut, is_err_cut, ran, status_by, Answered, AnsweredArguments, EndsAs, FindsLocal, HasRules, IsFlushed, IsBadRule, Loads, Presents, Reads, ReadsZones, Runs, RunsFile, StopsAs, ReportsStop, WritesOf};
 ghost use Rattle.cal_work.specs.rules.Works.{Reaches, ReportsFault, Works};
 
-use crate::file_bytes::FileBytes;
 use crate::stop::{Outlet, Stop, exit_status, write_stop};
 use cal_bytes::{Output, Sink};
 use cal_command::{Ask, CommandFault, ZoneItem};
-use cal_machine::{System, TreeFault, Unreadable};
-use cal_report::{report_unread, run_texts, run_timer};
+use cal_machine::{Inputs, OpenFault};
+use cal_report::{run_texts, run_timer};
 use cal_request::{Request, RequestKind, RunFault, Status};
 use cal_zone::{
     Instant, LoadFault, Rules, Setting, Zone, ZoneArgument, ZoneFault, ZoneTable, load_zone,
@@ -54,19 +54,22 @@ pub struct Ended {
 /// the clock can't be used, even if `err` fails while that is reported. But if the error could be reported, and `out`
 /// can't be flushed after that, the status is 1, and [`Ended::written`] says that `out` failed.
 ///
+/// A file is opened when its turn comes, and read to its end, unless an error comes first. If the base time is invalid,
+/// nothing of the timer file is read.
+///
 /// If an output or an allocation fails, each output has a prefix of its whole text. On `err`, the line that reports the
 /// failure follows, unless `err` is what failed. If `err` fails while this line is written, only a prefix of the line
 /// follows.
-pub fn work<S: System, T: AsStr, O: Output, E: Sink>(
+pub fn work<S: Inputs, T: AsStr, O: Output, E: Sink>(
     alloc: Global,
-    system: &S,
+    inputs: &mut S,
     arguments: &[T],
     out: &mut O,
     err: &mut E,
 ) -> Ended
     requires out { O.is_failed out.old ≡ false }
     requires err { E.is_failed err.old ≡ false }
-    ensures works { Works S.gives (map T.text arguments.now) (O.written out.old) (O.reached out.new)
+    ensures works { Works S.gives (S.opens inputs.new) (map T.text arguments.now) (O.written out.old) (O.reached out.new)
         (E.written err.old) (E.written err.new) (E.is_failed err.new) result }
     // The headline, for the verbs `calendar` and `timer`: the program prints the answer to what the arguments ask for
     // (or a prefix of it, with a status other than 0), or it prints nothing on standard output and its status isn't 0.
@@ -78,7 +81,7 @@ pub fn work<S: System, T: AsStr, O: Output, E: Sink>(
     ensures out_failed { O.is_failed out.new ≡ true → is_err result.written ≡ true }
     ensures err_fault { is_err_failed result.written ≡ true → E.is_failed err.new ≡ true }
 {
-    let answered = answer_arguments(alloc, system, arguments, out, err);
+    let answered = answer_arguments(alloc, inputs, arguments, out, err);
     let reported = report_end(&answered, out, err);
     let written = flush_output(reported.written, out);
     report_fault(written, err);
@@ -102,58 +105,62 @@ fn status_by(written: Result<(), RunFault>, status: u8) -> u8
 // ## The work, up to the first step that fails
 
 /// Parses the arguments and does what they ask for.
-fn answer_arguments<S: System, T: AsStr, O: Sink, E: Sink>(
+fn answer_arguments<S: Inputs, T: AsStr, O: Sink, E: Sink>(
     alloc: Global,
-    system: &S,
+    inputs: &mut S,
     arguments: &[T],
     out: &mut O,
     err: &mut E,
 ) -> Result<Status, Stop>
     requires out { O.is_failed out.old ≡ false }
     requires err { E.is_failed err.old ≡ false }
-    ensures answered { AnsweredArguments S.gives (map T.text arguments.now) result
+    ensures answered { AnsweredArguments S.gives (S.opens inputs.new) (map T.text arguments.now) result
         (O.written out.old) (O.written out.new) (E.written err.old) (E.written err.new) }
     ensures out_failed { O.is_failed out.new ≡ is_out_cut result }
     ensures err_failed { E.is_failed err.new ≡ is_err_cut result }
 {
     match Ask::of_arguments(alloc, arguments) {
-        Ok(ask) => answer(alloc, system, &ask, out, err),
+        Ok(ask) => answer(alloc, inputs, &ask, out, err),
         Err(fault) => Err(Stop::Command(fault)),
     }
 }
 
 /// Prepares the zones and the present instant, and runs the request.
-fn answer<S: System, O: Sink, E: Sink>(
+fn answer<S: Inputs, O: Sink, E: Sink>(
     alloc: Global,
-    system: &S,
+    inputs: &mut S,
     ask: &Ask,
     out: &mut O,
     err: &mut E,
 ) -> Result<Status, Stop>
     requires out { O.is_failed out.old ≡ false }
     requires err { E.is_failed err.old ≡ false }
-    ensures answered { Answered S.gives (shown_ask ask.entry.now) result
+    ensures answered { Answered S.gives (S.opens inputs.new) (shown_ask ask.entry.now) result
         (O.written out.old) (O.written out.new) (E.written err.old) (E.written err.new) }
     ensures out_failed { O.is_failed out.new ≡ is_out_cut result }
     ensures err_failed { E.is_failed err.new ≡ is_err_cut result }
 {
-    let table = read_zones(alloc, system, ask.zones.as_slice())?;
+    let table = read_zones(alloc, inputs, ask.zones.as_slice())?;
     let rules = read_rules(alloc, &ask.local)?;
     let local = local_zone(&ask.local, &rules, &table)?;
-    let now = find_present(system, ask.now)?;
-    run_request(alloc, system, &ask.request, now, local, &table, out, err)
+    let now = find_present(inputs, ask.now)?;
+    run_request(alloc, inputs, &ask.request, now, local, &table, out, err)
 }
 
 // ## The steps of `answer`
 
 /// Reads the zone files, in order, into a new table. If a file can't be loaded, returns the stop for this file, and
 /// doesn't read the files after it.
-fn read_zones<S: System>(alloc: Global, system: &S, items: &[ZoneItem]) -> Result<ZoneTable, Stop>
+fn read_zones<S: Inputs>(
+    alloc: Global,
+    inputs: &mut S,
+    items: &[ZoneItem],
+) -> Result<ZoneTable, Stop>
     ensures { ReadsZones (λ table. table) S.gives (map shown_item items.now) result }
 {
     let mut table = ZoneTable::new(alloc);
     for item in items {
-        match load_item(alloc, system, &mut table, item) {
+        match load_item(alloc, inputs, &mut table, item) {
             Ok(()) => {}
             Err(fault) => return Err(load_stop(alloc, item.name.as_str(), fault)),
         }
@@ -161,24 +168,19 @@ fn read_zones<S: System>(alloc: Global, system: &S, items: &[ZoneItem]) -> Resul
     Ok(table)
 }
 
-/// Reads a zone file into the table.
-fn load_item<S: System>(
+/// Opens a zone file and reads it into the table.
+fn load_item<S: Inputs>(
     alloc: Global,
-    system: &S,
+    inputs: &mut S,
     table: &mut ZoneTable,
     item: &ZoneItem,
 ) -> Result<(), LoadFault>
     ensures { Loads S.gives table.old table.new (shown_item item.now) result }
 {
-    match system.read(alloc, item.path.as_str()) {
-        Ok(bytes) => {
-            let mut file = FileBytes {
-                left: bytes.as_slice(),
-            };
-            load_zone(alloc, table, item.name.as_str(), &mut file)
-        }
-        Err(TreeFault::Unreadable(_)) => Err(LoadFault::ReadFailed),
-        Err(TreeFault::NoMemory) => Err(LoadFault::Zone(ZoneFault::NoMemory)),
+    match inputs.open(item.path.as_str()) {
+        Ok(()) => load_zone(alloc, table, item.name.as_str(), inputs),
+        Err(OpenFault::Unopened) => Err(LoadFault::ReadFailed),
+        Err(OpenFault::NoMemory) => Err(LoadFault::Zone(ZoneFault::NoMemory)),
     }
 }
 
@@ -234,20 +236,20 @@ fn local_zone<'t>(
 
 /// Returns the present instant: the instant given with `--now`, or else the time of the clock. Fails with `Stop::Clock`
 /// if the clock is needed but can't be read, or shows a time outside the supported range.
-fn find_present<S: System>(system: &S, given: Option<Instant>) -> Result<Instant, Stop>
+fn find_present<S: Inputs>(inputs: &S, given: Option<Instant>) -> Result<Instant, Stop>
     ensures { Presents (λ now. now.secs) S.gives (option_map (λ now. now.secs) given) result }
 {
     match given {
         Some(now) => Ok(now),
-        None => read_system_clock(system),
+        None => read_clock(inputs),
     }
 }
 
 /// Reads the clock. Fails with `Stop::Clock` if it can't be read, or shows a time outside the supported range.
-fn read_system_clock<S: System>(system: &S) -> Result<Instant, Stop>
+fn read_clock<S: Inputs>(inputs: &S) -> Result<Instant, Stop>
     ensures { Reads (λ now. now.secs) S.gives result }
 {
-    system.clock().and_then(instant_in).ok_or(Stop::Clock)
+    inputs.clock().and_then(instant_in).ok_or(Stop::Clock)
 }
 
 /// Returns the instant `secs` seconds after 1970-01-01 00:00:00 UTC, or `None` if it is outside the supported range.
@@ -258,10 +260,10 @@ fn instant_in(secs: i64) -> Option<Instant>
     Instant::new(secs)
 }
 
-/// Runs a request. If it is for a timer file, reads the file first.
-fn run_request<S: System, O: Sink, E: Sink>(
+/// Runs a request. If it is for a timer file, opens the file first.
+fn run_request<S: Inputs, O: Sink, E: Sink>(
     alloc: Global,
-    system: &S,
+    inputs: &mut S,
     request: &Request,
     now: Instant,
     local: Zone<'_>,
@@ -271,7 +273,7 @@ fn run_request<S: System, O: Sink, E: Sink>(
 ) -> Result<Status, Stop>
     requires out { O.is_failed out.old ≡ false }
     requires err { E.is_failed err.old ≡ false }
-    ensures runs { Runs S.gives (asked request.now now.secs local.entry table.now) result
+    ensures runs { Runs S.gives (S.opens inputs.new) (asked request.now now.secs local.entry table.now) result
         (O.written out.old) (O.written out.new) (E.written err.old) (E.written err.new) }
     ensures out_failed { O.is_failed out.new ≡ is_out_cut result }
     ensures err_failed { E.is_failed err.new ≡ is_err_cut result }
@@ -285,15 +287,15 @@ fn run_request<S: System, O: Sink, E: Sink>(
         RequestKind::Texts { verb, texts } => {
             run_texts(alloc, request, verb, texts, setting, out, err).map_err(Stop::Run)
         }
-        RequestKind::Timer { path } => { run_file(alloc, system, request, path, setting, out, err) }
+        RequestKind::Timer { path } => { run_file(alloc, inputs, request, path, setting, out, err) }
     }
 }
 
-/// Reads the timer file with this path, and runs the request for it. Fails with `Stop::Open` if the file can't be
+/// Opens the timer file with this path, and runs the request for it. Fails with `Stop::Open` if the file can't be
 /// opened.
-fn run_file<S: System, O: Sink, E: Sink>(
+fn run_file<S: Inputs, O: Sink, E: Sink>(
     alloc: Global,
-    system: &S,
+    inputs: &mut S,
     request: &Request,
     path: &str,
     setting: Setting<'_>,
@@ -302,23 +304,15 @@ fn run_file<S: System, O: Sink, E: Sink>(
 ) -> Result<Status, Stop>
     requires out { O.is_failed out.old ≡ false }
     requires err { E.is_failed err.old ≡ false }
-    ensures runs { RunsFile S.gives (asked_in request.now setting.entry) path.now result
+    ensures runs { RunsFile S.gives (S.opens inputs.new) (asked_in request.now setting.entry) path.now result
         (O.written out.old) (O.written out.new) (E.written err.old) (E.written err.new) }
     ensures out_failed { O.is_failed out.new ≡ is_out_cut result }
     ensures err_failed { E.is_failed err.new ≡ is_err_cut result }
 {
-    match system.read(alloc, path) {
-        Ok(bytes) => {
-            let mut input = FileBytes {
-                left: bytes.as_slice(),
-            };
-            run_timer(alloc, request, path, setting, &mut input, out, err).map_err(Stop::Run)
-        }
-        Err(TreeFault::Unreadable(Unreadable::Unopened)) => Err(unopened_stop(alloc, path)),
-        Err(TreeFault::Unreadable(Unreadable::Failed | Unreadable::NotUtf8)) => {
-            report_unread(request, path, setting, err).map_err(Stop::Run)
-        }
-        Err(TreeFault::NoMemory) => Err(Stop::Run(RunFault::NoMemory)),
+    match inputs.open(path) {
+        Ok(()) => { run_timer(alloc, request, path, setting, inputs, out, err).map_err(Stop::Run) }
+        Err(OpenFault::Unopened) => Err(unopened_stop(alloc, path)),
+        Err(OpenFault::NoMemory) => Err(Stop::Run(RunFault::NoMemory)),
     }
 }
 

@@ -7,7 +7,7 @@ use Rattle.cal_command.specs.declared.command_fault.CommandFault as declared_fau
 use Rattle.cal_command.specs.declared.command_fault.CommandFault.TheVariants.{Usage, Help, BadIterations, BadNow, BadZones, BadLocal, NoMemory}
 
 -- usage or help, with the text to print; an invalid value of an option, with the message; or a failed allocation. The
--- text of `usage` comes from `clap`, or is that of `nothing_asked`.
+-- text of `usage` comes from `clap`.
 pub data CommandFault : Type 0 where
   usage : List ℕ → CommandFault
   help : List ℕ → CommandFault
@@ -25,10 +25,6 @@ bad_zones = bad_value (codes "bad zones")
 
 abbrev pub bad_local : CommandFault
 bad_local = bad_value (codes "bad local zone")
-
--- the error if `clap` accepts the arguments, but finds no verb or no text in them
-abbrev pub nothing_asked : CommandFault
-nothing_asked = usage (codes "calendar-analyze: no verb or no text\n")
 
 -- the error for one of `clap`
 abbrev pub reported : refusals.Fault → CommandFault

@@ -1,6 +1,6 @@
 -- The command line (systemd-analyze(1)): the command that is described to `clap`, and what the arguments ask for, given
 -- what `clap` finds in them.
-use Rattle.std.specs.Prelude.{◌≡◌, ◌⊎◌, ⊤, Bool, true, false, not, List, [], ◌∷◌, ◌++◌, map, Option, None, Some, Result, Ok, Err, codes, if◌then◌else◌, option_map}
+use Rattle.std.specs.Prelude.{◌≡◌, ⊤, Bool, true, false, not, List, [], ◌∷◌, ◌++◌, map, Option, None, Some, Result, Ok, Err, codes, if◌then◌else◌, option_map}
 use Rattle.std.specs.List.{list_any}
 use Rattle.std.specs.Option.{option_map_or}
 use Rattle.clap.specs.Words.{App, Kinds, Rule, Shape, Text, fault_of, new_app, subcommand_of, takes}
@@ -9,7 +9,7 @@ use Rattle.clap.specs.declared.error.kind.ErrorKind.{ErrorKind}
 use Rattle.cal_request.specs.rules.Verb.{all_verbs, is_timer, seeks_elapses, uses_instants, verb_name}
 use Rattle.cal_request.specs.declared.verb.Verb.{Verb}
 use Rattle.cal_command.specs.rules.Ask.{Ask}
-use Rattle.cal_command.specs.rules.CommandFault.{CommandFault, usage, help, bad_value, bad_iterations, bad_now, bad_zones, bad_local, no_memory, nothing_asked}
+use Rattle.cal_command.specs.rules.CommandFault.{CommandFault, usage, help, bad_value, bad_iterations, bad_now, bad_zones, bad_local, no_memory}
 use Rattle.cal_command.specs.rules.OptionValues.{count_in, zones_in}
 use Rattle.cal_options.specs.rules.ArgumentFault.{is_of_help}
 use Rattle.cal_options.specs.rules.Arguments.{positional_rule, value_rule}
@@ -91,21 +91,16 @@ read_options found =
       zones = zones;
     })))))
 
--- the result for the texts that `clap` found, or the error if there are none
-abbrev pub unless_empty : List Text → Result Ask CommandFault → Result Ask CommandFault
-unless_empty [] answer = Err nothing_asked
-unless_empty (text ∷ texts) answer = answer
-
--- What the arguments ask for, or the error for the first invalid value. The function is meant for arguments that `clap`
--- accepts. In these, `clap` finds a verb and its texts, so `nothing_asked` is never the result; but this isn't proved.
-unfoldable pub ask_in : List Text → Result Ask CommandFault
-ask_in arguments = option_map_or (λ found. unless_empty found.texts (read_options found)) (parsed_in arguments) (Err nothing_asked)
+-- What the arguments ask for, or the error for the first invalid value; None if `clap` finds no verb or no texts in them.
+-- It finds both in all arguments that it parses: see the law `parsed_arguments_have_texts`.
+unfoldable pub ask_in : List Text → Option (Result Ask CommandFault)
+ask_in arguments = option_map read_options (parsed_in arguments)
 
 -- ## Which results are right
 
 -- `clap` parses the arguments, and `answer` is what they ask for, or the error for the first invalid value (`ask_in`)
 abbrev pub HasRead : List Text → Result Ask CommandFault → Type 0
-HasRead arguments answer = (faults_in arguments ≡ []) × (ask_in arguments ≡ answer)
+HasRead arguments answer = (faults_in arguments ≡ []) × (ask_in arguments ≡ Some answer)
 
 -- `clap` rejects the arguments, and one of the errors that it may report for them is of a kind that passes `is_kind`
 abbrev pub AreRejected : List Text → (ErrorKind → Bool) → Type 0
@@ -113,10 +108,9 @@ AreRejected arguments is_kind = (takes_arguments arguments ≡ false) × (list_a
 
 -- `fault` is right for the arguments. If `clap` rejects them, `help` is right if one possible reason is a request for
 -- help or the version, and `usage` is right if one possible reason is anything else. If `clap` parses them, the error
--- for the first invalid value is right, or `nothing_asked`. The error for a failed allocation is right for all
--- arguments.
+-- for the first invalid value is right. The error for a failed allocation is right for all arguments.
 abbrev pub IsFaultOf : List Text → CommandFault → Type 0
-IsFaultOf arguments (usage text) = AreRejected arguments (λ kind. not (is_of_help kind)) ⊎ HasRead arguments (Err (usage text))
+IsFaultOf arguments (usage text) = AreRejected arguments (λ kind. not (is_of_help kind))
 IsFaultOf arguments (help text) = AreRejected arguments is_of_help
 IsFaultOf arguments (bad_value message) = HasRead arguments (Err (bad_value message))
 IsFaultOf arguments no_memory = ⊤

@@ -1,5 +1,5 @@
 -- What `clap` finds in the arguments: a verb with its texts, and the values of its options (systemd-analyze(1)).
-use Rattle.std.specs.Prelude.{List, take, Option, None, codes, if◌then◌else◌, option_and_then, option_map}
+use Rattle.std.specs.Prelude.{◌≡◌, ◌<◌, true, List, length, Option, None, codes, if◌then◌else◌, option_and_then, option_map}
 use Rattle.clap.specs.Words.{Row, Text, all_of, first_of, found_of, rows_of}
 use Rattle.cal_command.specs.rules.Ask.{texts_of}
 use Rattle.cal_command.specs.declared.verb_matches.VerbMatches as declared_matches
@@ -13,17 +13,15 @@ pub record VerbMatches : Type 0 where
   pub texts : List Text
   pub rows : List Row
 
--- the texts that are used: only the first for `timer`, and all for other verbs
-abbrev pub texts_kept : Verb → List Text → List Text
-texts_kept verb texts = if is_timer verb then take 1 texts else texts
+-- there is at least one text, and for `timer` exactly one: the path of the timer file
+abbrev pub HasTexts : VerbMatches → Type 0
+HasTexts found = (0 < length found.texts) × (is_timer found.verb ≡ true → length found.texts ≡ 1)
 
-abbrev pub texts_for : Verb → List Row → Option (List Text)
-texts_for verb rows = option_map (texts_kept verb) (all_of (codes "text") rows)
-
+-- the verb with its texts, or None if `clap` found no texts
 abbrev pub verb_matches_for : Verb → List Row → Option VerbMatches
-verb_matches_for verb rows = option_map (λ texts. record { verb = verb; texts = texts; rows = rows }) (texts_for verb rows)
+verb_matches_for verb rows = option_map (λ texts. record { verb = verb; texts = texts; rows = rows }) (all_of (codes "text") rows)
 
--- the verb whose name `clap` found, with its texts
+-- the verb whose name `clap` found, with its texts; None if it found no verb or no texts
 unfoldable pub verb_matches_in : Option (Text × List Row) → Option VerbMatches
 verb_matches_in = option_and_then (λ found. option_and_then (λ verb. verb_matches_for verb found.1) (verb_named found.0))
 

@@ -116,7 +116,10 @@ pub record IsFine (report : Report) : Type 0 where
   pub err : report.err ≡ []
   pub status : report.status ≡ Fine
 
--- the assignments in the section `Timer` of a file, in order
+-- The assignments in the section `Timer` of a file, in order. By the laws of `cal_timer`, `logical_lines` returns the
+-- only list of lines that the relation `AreLogical` describes (`logical_lines_are_those_of_the_rule`), and
+-- `assignments_in` takes the assignments from those lines for which the nearest header above opens this section
+-- (`one_section`).
 abbrev pub assigned_in : List ℕ → List Assignment
 assigned_in bytes = assignments_in false (logical_lines 1 (without_mark bytes))
 

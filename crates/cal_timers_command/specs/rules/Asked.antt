@@ -1,5 +1,5 @@
 -- What the arguments ask, or which error they have.
-use Rattle.std.specs.Prelude.{◌≡◌, ◌⊎◌, ◌<◌, ⊤, ℕ, ℤ, Bool, ◌&&◌, List, [], ◌∷◌, Option, None, Some, Result, Ok, Err, codes, if◌then◌else◌, is_some, length, map, unwrap_or, option_map}
+use Rattle.std.specs.Prelude.{◌≡◌, ◌⊎◌, ◌<◌, ⊤, ℕ, ℤ, Bool, ◌&&◌, List, [], Option, None, Some, Result, Ok, Err, codes, if◌then◌else◌, is_some, length, map, unwrap_or, option_and_then, option_map, IsSome}
 use Rattle.std.specs.Option.{option_map_or}
 use Rattle.std.specs.String.{string_bytes}
 use Rattle.clap.specs.Words.{Kinds, Row, Text, all_of, fault_of, first_of, subcommand_of}
@@ -16,7 +16,7 @@ use Rattle.cal_options.specs.rules.OptionNumbers.{present_in, number_between}
 use Rattle.cal_options.specs.rules.Values.{is_set}
 use Rattle.cal_timers_command.specs.rules.CommandLine.{command_app}
 use Rattle.cal_timers_command.specs.rules.OptionValues.{bad_instant, bad_number, is_zone_first, no_value, text_in, zone_clash}
-use Rattle.cal_timers_command.specs.rules.Questions.{default_count, max_count, no_question}
+use Rattle.cal_timers_command.specs.rules.Questions.{default_count, max_count}
 use Rattle.cal_timers_command.specs.rules.VerbFirst.{verb_first}
 use Rattle.cal_timers_command.specs.rules.Verbs.{verb_named}
 
@@ -137,41 +137,38 @@ options_for rows =
 
 -- ## What a verb with these values asks
 
--- The value of a required argument, or the error that it isn't given. `clap` accepts no arguments without it, so
--- `no_question` is never the error; but this isn't proved.
-abbrev pub needed : Option Text → Result Text Fault
-needed None = Err (usage no_question)
-needed (Some text) = Ok text
-
--- these texts, or the error `no_question` if there are none; what is said of this error at `needed` holds here, too
-abbrev pub one_or_more : List Text → Result (List Text) Fault
-one_or_more [] = Err (usage no_question)
-one_or_more (text ∷ texts) = Ok (text ∷ texts)
+-- the value of a required argument, which `clap` finds in all arguments that it parses (`HasNeeded`)
+abbrev pub needed_text : Text → List Row → Text
+needed_text name rows = unwrap_or (first_of name rows) []
 
 -- the timers, the expressions of `next` or the crontabs of `cron`, in the order in which they are given
 abbrev pub targets_in : List Row → List Text
 targets_in rows = unwrap_or (all_of (codes "target") rows) []
 
+-- the two targets that `between` and `same` need are given
+abbrev pub HasPair : List Row → Type 0
+HasPair rows = IsSome (first_of (codes "first") rows) × IsSome (first_of (codes "second") rows)
+
+-- all targets that the verb needs are given
+abbrev pub HasNeeded : Verb → List Row → Type 0
+HasNeeded verbs.List rows = ⊤
+HasNeeded verbs.Show rows = 0 < length (targets_in rows)
+HasNeeded verbs.Lint rows = ⊤
+HasNeeded verbs.Between rows = HasPair rows
+HasNeeded verbs.Same rows = HasPair rows
+HasNeeded verbs.Next rows = 0 < length (targets_in rows)
+HasNeeded verbs.Due rows = ⊤
+HasNeeded verbs.Cron rows = ⊤
+
 -- the question that a verb with these values asks, or the error of the first invalid value
 unfoldable pub question_for : Verb → List Row → Result Question Fault
 question_for verbs.List rows = Ok (list (targets_in rows) (is_set (codes "all") rows) (is_set (codes "cron") rows))
-question_for verbs.Show rows =
-    then_with (one_or_more (targets_in rows)) (λ timers.
-    then_with (count_value rows) (λ count.
-    Ok (show timers count)))
+question_for verbs.Show rows = then_with (count_value rows) (λ count. Ok (show (targets_in rows) count))
 question_for verbs.Lint rows = Ok (lint (targets_in rows) (is_set (codes "all") rows) (is_set (codes "strict") rows))
 question_for verbs.Between rows =
-    then_with (needed (first_of (codes "first") rows)) (λ from.
-    then_with (needed (first_of (codes "second") rows)) (λ to.
-    Ok (between from to (targets_in rows) (is_set (codes "all") rows) (is_set (codes "cron") rows))))
-question_for verbs.Same rows =
-    then_with (needed (first_of (codes "first") rows)) (λ one.
-    then_with (needed (first_of (codes "second") rows)) (λ other.
-    Ok (same one other)))
-question_for verbs.Next rows =
-    then_with (one_or_more (targets_in rows)) (λ expressions.
-    then_with (count_value rows) (λ count.
-    Ok (next expressions count)))
+    Ok (between (needed_text (codes "first") rows) (needed_text (codes "second") rows) (targets_in rows) (is_set (codes "all") rows) (is_set (codes "cron") rows))
+question_for verbs.Same rows = Ok (same (needed_text (codes "first") rows) (needed_text (codes "second") rows))
+question_for verbs.Next rows = then_with (count_value rows) (λ count. Ok (next (targets_in rows) count))
 question_for verbs.Due rows = Ok (due (first_of (codes "target") rows))
 question_for verbs.Cron rows = Ok (cron (targets_in rows))
 
@@ -188,20 +185,22 @@ command_for verb rows =
 unfoldable pub faults_in : List Text → Kinds
 faults_in arguments = fault_of command_app (verb_first arguments)
 
--- what is asked, or the first error, given what `clap` finds: the name of the verb, and the values of the options and
--- targets
-unfoldable pub command_found : Option (Text × List Row) → Result Command Fault
-command_found found =
-    option_map_or (λ (pair : Text × List Row). option_map_or (λ verb. command_for verb pair.1) (verb_named pair.0) (Err (usage no_question)))
-    found (Err (usage no_question))
+-- the verb whose name `clap` finds, with the values of its options and targets; None if `clap` finds no verb
+unfoldable pub verb_in : Option (Text × List Row) → Option (Verb × List Row)
+verb_in = option_and_then (λ found. option_map (λ verb. (verb, found.1)) (verb_named found.0))
 
--- what the arguments ask if `clap` parses them, or the error of the first invalid value
-unfoldable pub answer_in : List Text → Result Command Fault
-answer_in arguments = command_found (subcommand_of command_app (verb_first arguments))
+-- the verb and the values that `clap` finds in the arguments
+unfoldable pub parsed_in : List Text → Option (Verb × List Row)
+parsed_in arguments = verb_in (subcommand_of command_app (verb_first arguments))
+
+-- What the arguments ask, or the error of the first invalid value; None if `clap` finds no verb in them. It finds a verb,
+-- and all targets that this verb needs, in all arguments that it parses: see the law `parsed_arguments_are_complete`.
+unfoldable pub answer_in : List Text → Option (Result Command Fault)
+answer_in arguments = option_map (λ found. command_for found.0 found.1) (parsed_in arguments)
 
 -- `clap` parses the arguments, and `answer` is what they ask, or the error of the first invalid value
 abbrev pub HasRead : List Text → Result Command Fault → Type 0
-HasRead arguments answer = (faults_in arguments ≡ []) × (answer_in arguments ≡ answer)
+HasRead arguments answer = (faults_in arguments ≡ []) × (answer_in arguments ≡ Some answer)
 
 -- the arguments ask this
 abbrev pub IsCommandOf : List Text → Command → Type 0

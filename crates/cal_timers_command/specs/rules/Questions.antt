@@ -1,5 +1,5 @@
 -- The values of `--count`, and the texts of the errors that parsing the arguments can return.
-use Rattle.std.specs.Prelude.{◌≡◌, ℕ, ◌≤◌, ◌<◌, ⊤, List, codes, length, string_bytes}
+use Rattle.std.specs.Prelude.{◌≡◌, ℕ, ◌≤◌, ◌<◌, ⊤, List, length, string_bytes}
 use Rattle.cal_options.specs.declared.argument_fault.ArgumentFault.{ArgumentFault}
 use Rattle.cal_options.specs.declared.argument_fault.ArgumentFault.TheVariants.{Usage, Help, NoMemory}
 
@@ -24,11 +24,6 @@ abbrev pub HasText : ArgumentFault → Type 0
 HasText (Usage text) = 0 < length (string_bytes text)
 HasText (Help text) = 0 < length (string_bytes text)
 HasText NoMemory = ⊤
-
--- the text for arguments that `clap` accepts although they have no verb, or a number of targets that the verb doesn't
--- accept
-abbrev pub no_question : List ℕ
-no_question = codes "error: no verb, or a wrong number of arguments\n\nFor more information, try '--help'.\n"
 
 -- the error is `Usage` with this text, unless allocation failed
 abbrev pub IsUsageOf : List ℕ → ArgumentFault → Type 0

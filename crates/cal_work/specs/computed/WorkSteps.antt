@@ -14,11 +14,11 @@ use Rattle.cal_command.specs.rules.Ask.{Ask, ZoneItem}
 use Rattle.cal_work.specs.rules.Outcome.{World, ZoneFound, loaded, table_by, local_by, clock_by, present_by, outcome, outcome_of, run_by, run_on, out_text, err_text, outcome_status, ended_status}
 use Rattle.cal_report.specs.rules.ReportLines.{Report}
 use Rattle.cal_request.specs.rules.Request.{Request}
-use Rattle.cal_request.specs.rules.RequestKind.{for_file}
+use Rattle.cal_request.specs.rules.RequestKind.{for_file, kind_of}
 use Rattle.cal_work.specs.rules.Stop.{Stop, exit_status, stops_for_memory, stops_for_out, stops_for_err, outlet_of, shown_stop, stop_text}
-use Rattle.cal_machine.specs.rules.Seen.{Said, ClockShows}
+use Rattle.cal_machine.specs.rules.Told.{Told, ClockShows}
 use Rattle.cal_work.specs.rules.FileAnswer.{FileAnswer, Gave}
-use Rattle.cal_work.specs.rules.Works.{Fits, FitsArguments, IsLocal, SeesFile, SeesZone, SeesZones}
+use Rattle.cal_work.specs.rules.Works.{Fits, FitsArguments, IsLocal, LeavesFileUnread, LeavesUnread, SeesFile, SeesZone, SeesZones}
 use Rattle.cal_zone.specs.declared.zone_files.LoadFault.{LoadFault}
 use Rattle.cal_zone.specs.rules.ZoneArgument.{ZoneArgument, in_utc, at_offset, by_rule, of_name}
 use Rattle.cal_request.specs.declared.request.RunFault.{RunFault}
@@ -62,13 +62,13 @@ abbrev pub LoadsAs : Result Unit LoadFault → ZoneMap → Result ZoneMap LoadFa
 LoadsAs (Ok done) table expected = expected ≡ Ok table
 LoadsAs (Err fault) table expected = expected ≡ Err fault
 
-pub record Loads (gives : Said → Bool) (before after : ZoneMap) (item : ZoneItem) (result : Result Unit LoadFault) : Type 0 where
+pub record Loads (gives : Told → Bool) (before after : ZoneMap) (item : ZoneItem) (result : Result Unit LoadFault) : Type 0 where
   pub found : ZoneFound
   pub sees : SeesZone gives item found
   pub loads : LoadsAs result after (loaded before item found)
 
 -- what reading all zone files returned agrees with `table_by`, for what the program found in the files
-pub record ReadsZones {T : Type 0} (view : T → ZoneMap) (gives : Said → Bool) (items : List ZoneItem) (result : Result T declared_stop.Stop) : Type 0 where
+pub record ReadsZones {T : Type 0} (view : T → ZoneMap) (gives : Told → Bool) (items : List ZoneItem) (result : Result T declared_stop.Stop) : Type 0 where
   pub found : List ZoneFound
   pub sees : SeesZones gives empty items found
   pub answers : Answers view result (table_by empty items found)
@@ -95,14 +95,14 @@ pub record FindsLocal {T : Type 0} (view : T → ClockZone) (local : ZoneArgumen
   pub answers : Answers view result (local_by local table zone)
 
 -- what reading the clock returned agrees with `clock_by`, for the time that the clock showed
-pub record Reads {T : Type 0} (view : T → ℤ) (gives : Said → Bool) (result : Result T declared_stop.Stop) : Type 0 where
+pub record Reads {T : Type 0} (view : T → ℤ) (gives : Told → Bool) (result : Result T declared_stop.Stop) : Type 0 where
   pub clock : Option ℤ
   pub is_time : IsTrue (gives (ClockShows clock))
   pub answers : Answers view result (clock_by clock)
 
 -- What determining the present instant returned agrees with `present_by`. `clock` is the time that the clock showed; it
 -- matters only if the arguments give no instant.
-pub record Presents {T : Type 0} (view : T → ℤ) (gives : Said → Bool) (given : Option ℤ) (result : Result T declared_stop.Stop) : Type 0 where
+pub record Presents {T : Type 0} (view : T → ℤ) (gives : Told → Bool) (given : Option ℤ) (result : Result T declared_stop.Stop) : Type 0 where
   pub clock : Option ℤ
   pub asked : IfNone given (IsTrue (gives (ClockShows clock)))
   pub answers : Answers view result (present_by given clock)
@@ -127,26 +127,31 @@ EndsAs (Ok status) expected out out' err err' =
     (outcome_status expected ≡ exit_status status) × Appends out out' (out_text expected) × Appends err err' (err_text expected)
 EndsAs (Err stop) expected out out' err err' = StopEnds stop expected out out' err err'
 
--- what reading a timer file and answering it returned and wrote agrees with `run_on`, for the answer of the system
-pub record RunsFile (gives : Said → Bool) (asked : Request) (path : List ℕ) (result : Result Status declared_stop.Stop) (out out' err err' : Option (List ℕ)) : Type 0 where
+-- the result and the output of opening a timer file and running its request agree with `run_on`, for what the system
+-- answered; if the base time is invalid, the file was left unread
+pub record RunsFile (gives : Told → Bool) (is_unread : List ℕ → Bool) (asked : Request) (path : List ℕ) (result : Result Status declared_stop.Stop) (out out' err err' : Option (List ℕ)) : Type 0 where
   pub answer : FileAnswer
   pub given : Gave gives path answer
+  pub unread : LeavesUnread is_unread asked (for_file path) answer
   pub ends : EndsAs result (run_on asked answer (for_file path)) out out' err err'
 
 -- what running a request returned and wrote agrees with `run_by`, for the answer of the system about the timer file
-pub record Runs (gives : Said → Bool) (asked : Request) (result : Result Status declared_stop.Stop) (out out' err err' : Option (List ℕ)) : Type 0 where
+pub record Runs (gives : Told → Bool) (is_unread : List ℕ → Bool) (asked : Request) (result : Result Status declared_stop.Stop) (out out' err err' : Option (List ℕ)) : Type 0 where
   pub answer : FileAnswer
   pub sees : SeesFile gives asked answer
+  pub unread : LeavesUnread is_unread asked (kind_of asked) answer
   pub ends : EndsAs result (run_by asked answer) out out' err err'
 
-pub record Answered (gives : Said → Bool) (ask : Ask) (result : Result Status declared_stop.Stop) (out out' err err' : Option (List ℕ)) : Type 0 where
+pub record Answered (gives : Told → Bool) (is_unread : List ℕ → Bool) (ask : Ask) (result : Result Status declared_stop.Stop) (out out' err err' : Option (List ℕ)) : Type 0 where
   pub world : World
   pub fits : Fits gives ask world
+  pub unread : LeavesFileUnread is_unread ask world
   pub ends : EndsAs result (outcome_of ask world) out out' err err'
 
-pub record AnsweredArguments (gives : Said → Bool) (arguments : List (List ℕ)) (result : Result Status declared_stop.Stop) (out out' err err' : Option (List ℕ)) : Type 0 where
+pub record AnsweredArguments (gives : Told → Bool) (is_unread : List ℕ → Bool) (arguments : List (List ℕ)) (result : Result Status declared_stop.Stop) (out out' err err' : Option (List ℕ)) : Type 0 where
   pub world : World
   pub fits : FitsArguments gives arguments world
+  pub unread : IfOk world.parsed (λ ask. LeavesFileUnread is_unread ask world)
   pub ends : EndsAs result (outcome world) out out' err err'
 
 -- ## After the work has ended: the report of a stop, the flush of standard output, and the exit status

@@ -1,12 +1,11 @@
 -- The outcome of the program's work: a report, or a stop, which is what is reported if the work ends before the run.
 -- The outcome depends on a world: the parsed arguments, the files, the zones read from them, and the clock.
-use Rattle.std.specs.Prelude.{ℕ, ℤ, pos, not, ◌&&◌, int_lt, nat_le, length, List, [], ◌∷◌, Option, None, Some, is_some, Result, Ok, Err, if◌then◌else◌}
+use Rattle.std.specs.Prelude.{ℕ, ℤ, pos, not, ◌&&◌, int_lt, List, [], ◌∷◌, Option, None, Some, is_some, Result, Ok, Err, if◌then◌else◌}
 use Rattle.std.specs.FinMap.{insert, empty}
 use Rattle.jiff.specs.Types.{TimeZone}
 use Rattle.jiff.specs.Words.{read_whole as rule_read}
 use Rattle.cal_zone.specs.rules.Instant.{last_instant}
 use Rattle.cal_zone.specs.rules.Zone.{utc}
-use Rattle.cal_zone.specs.rules.ZoneFile.{file_limit}
 use Rattle.cal_zone.specs.rules.ZoneTable.{ZoneMap, zone_named}
 use Rattle.cal_civil.specs.rules.ZoneName.{is_zone_name}
 use Rattle.cal_zone.specs.rules.AddedZones.{is_taken}
@@ -20,23 +19,22 @@ use Rattle.cal_report.specs.rules.RunReport.{file_report, texts_report}
 use Rattle.cal_report.specs.rules.ReportLines.{Report}
 use Rattle.cal_request.specs.rules.RequestKind.{RequestKind, for_file, for_texts, kind_of}
 use Rattle.cal_request.specs.rules.Request.{Request}
-use Rattle.cal_timer.specs.rules.TimerEntries.{timer_file_limit}
 use Rattle.cal_work.specs.rules.Stop.{Stop, command_stop, load_stop, rule_stop, name_stop, clock_stop, unopened_stop, memory_stop, exit_status}
-use Rattle.cal_machine.specs.declared.tree.Unreadable.TheVariants.{Unopened, Failed, NotUtf8}
-use Rattle.cal_work.specs.rules.FileAnswer.{FileAnswer, within}
+use Rattle.cal_machine.specs.rules.Told.{Contents, Unopened}
+use Rattle.cal_work.specs.rules.FileAnswer.{FileAnswer}
 use Rattle.cal_zone.specs.declared.zone_files.LoadFault.{LoadFault}
 use Rattle.cal_zone.specs.declared.zone_files.LoadFault.TheVariants.{ReadFailed, Zone}
 use Rattle.cal_zone.specs.rules.ZoneArgument.{ZoneArgument, in_utc, at_offset, by_rule, of_name}
 use Rattle.cal_request.specs.declared.request.RunFault.{RunFault}
 use Rattle.cal_request.specs.declared.request.RunFault.TheVariants as run
 
--- what the system answered about a zone file, and the zone that `jiff` reads from the file, if `jiff` accepts the file
+-- what the program found in a zone file, and the zone that `jiff` reads from the file, if `jiff` accepts the file
 pub record ZoneFound : Type 0 where
   pub answer : FileAnswer
   pub zone : Option TimeZone
 
 -- Everything that the outcome depends on: the parsed arguments, what the program finds in each zone file (in the order
--- of the arguments), the local zone, the clock's time in seconds, and what the system answered about the timer file.
+-- of the arguments), the local zone, the clock's time in seconds, and what the timer file holds.
 pub record World : Type 0 where
   pub parsed : Result Ask CommandFault
   pub zones : List ZoneFound
@@ -56,18 +54,20 @@ abbrev pub with_zone : ZoneMap → List ℕ → Option TimeZone → Result ZoneM
 with_zone table name None = Err (Zone BadFile)
 with_zone table name (Some zone) = if is_taken table name then Err (Zone NameTaken) else Ok (insert table name zone)
 
--- `with_zone` for a file with these bytes; first the zone's name is checked, and then the file's size
-abbrev pub with_bytes : ZoneMap → List ℕ → Option TimeZone → List ℕ → Result ZoneMap LoadFault
-with_bytes table name read bytes =
-    if is_zone_name name
-    then if nat_le (length bytes) file_limit then with_zone table name read else Err (Zone TooLarge)
-    else Err (Zone BadName)
+-- `with_zone` if reading the file to its end gave its bytes, or why they can't be had
+abbrev pub with_contents : ZoneMap → List ℕ → Option TimeZone → Result (List ℕ) WholeFault → Result ZoneMap LoadFault
+with_contents table name tz (Ok bytes) = with_zone table name tz
+with_contents table name tz (Err whole.ReadFailed) = Err ReadFailed
+with_contents table name tz (Err whole.TooLarge) = Err (Zone TooLarge)
+with_contents table name tz (Err whole.NoMemory) = Err (Zone NoMemory)
 
--- the table with the zone of the file added, or why the file can't be loaded
+-- the table with the zone of the file added, or why the file can't be loaded; the zone's name is checked before the
+-- file is read
 abbrev pub with_file : ZoneMap → List ℕ → Option TimeZone → FileAnswer → Result ZoneMap LoadFault
-with_file table name read None = Err (Zone NoMemory)
-with_file table name read (Some (Ok bytes)) = with_bytes table name read bytes
-with_file table name read (Some (Err why)) = Err ReadFailed
+with_file table name tz None = Err (Zone NoMemory)
+with_file table name tz (Some Unopened) = Err ReadFailed
+with_file table name tz (Some (Contents read)) =
+    if is_zone_name name then with_contents table name tz read else Err (Zone BadName)
 
 unfoldable pub loaded : ZoneMap → ZoneItem → ZoneFound → Result ZoneMap LoadFault
 loaded table item found = with_file table item.name found.zone found.answer
@@ -111,18 +111,17 @@ unfoldable pub present_by : Option ℤ → Option ℤ → Result ℤ Stop
 present_by (Some now) clock = Ok now
 present_by None clock = clock_by clock
 
--- ## The fourth step: reading the timer file and running the request
+-- ## The fourth step: opening the timer file and running the request
 
--- the result of reading the timer file, or the stop if the file can't be opened or memory runs out
+-- the result of reading the timer file to its end, or the stop if the file can't be opened or memory runs out
 abbrev pub input_by : List ℕ → FileAnswer → Result (Result (List ℕ) WholeFault) Stop
 input_by path None = Err memory_stop
-input_by path (Some (Ok bytes)) = Ok (within timer_file_limit bytes)
-input_by path (Some (Err Unopened)) = Err (unopened_stop path)
-input_by path (Some (Err Failed)) = Ok (Err whole.ReadFailed)
-input_by path (Some (Err NotUtf8)) = Ok (Err whole.ReadFailed)
+input_by path (Some Unopened) = Err (unopened_stop path)
+input_by path (Some (Contents read)) = Ok read
 
--- if the request is for texts, their report, for which no file is read; if it is for a timer file, the report for the
--- result of reading this file, or the stop that `input_by` returns
+-- If the request is for texts: their report, for which no file is read. If it is for a timer file: the report for the
+-- result of reading this file, or the stop that `input_by` returns. If the base time is invalid, the report is the same
+-- for every result of reading, so the file needn't be read.
 abbrev pub run_on : Request → FileAnswer → RequestKind → Result Report Stop
 run_on asked answer (for_texts verb texts) = Ok (texts_report asked verb texts)
 run_on asked answer (for_file path) = and_then (λ read. Ok (file_report asked path read)) (input_by path answer)

@@ -8,12 +8,10 @@ use Rattle.std.specs.FinMap.{empty, insert}
 use Rattle.std.specs.Io.KnownBytes.{Appends, Keeps}
 use Rattle.jiff.specs.Types.{TimeZone}
 use Rattle.cal_bytes.specs.declared.whole.WholeFault.{WholeFault}
-use Rattle.cal_bytes.specs.declared.whole.WholeFault.TheVariants.{ReadFailed}
 use Rattle.cal_zone.specs.rules.AddedZones.{is_taken}
 use Rattle.cal_zone.specs.rules.Instant.{IsInstant}
 use Rattle.cal_zone.specs.rules.ZoneFile.{IsFileZone}
 use Rattle.cal_zone.specs.rules.ZoneTable.{ZoneMap}
-use Rattle.cal_timer.specs.rules.TimerEntries.{timer_file_limit}
 use Rattle.cal_command.specs.rules.Ask.{Ask, ZoneItem}
 use Rattle.cal_request.specs.rules.Request.{Request}
 use Rattle.cal_request.specs.rules.RequestKind.{timer_path}
@@ -25,30 +23,28 @@ use Rattle.cal_report.specs.rules.ReportLines.{Report}
 use Rattle.cal_report.specs.rules.Resume.{AreAcceptedAmong, Begins, Resumes, ResumesAmong}
 use Rattle.cal_report.specs.rules.RunReport.{whole_report}
 use Rattle.cal_work.specs.rules.Stop.{exit_status}
-use Rattle.cal_machine.specs.declared.tree.Unreadable.{Unreadable}
-use Rattle.cal_machine.specs.rules.Seen.{Said, ClockShows, FileIs}
-use Rattle.cal_work.specs.rules.FileAnswer.{within}
+use Rattle.cal_machine.specs.rules.Told.{ClockShows, Contents, FileHolds, Told}
 use Rattle.cal_work.specs.rules.Works.{IsLocal}
 use Rattle.cal_work.specs.declared.arguments_to_bytes.Ended.{Ended}
 
 -- ## From the arguments to a request
 
 -- `now` is the present instant: the one that the arguments give, or, if they give none, the time that the clock shows
-abbrev pub IsPresent : (Said → Bool) → Option ℤ → ℤ → Type 0
+abbrev pub IsPresent : (Told → Bool) → Option ℤ → ℤ → Type 0
 IsPresent gives (Some given) now = (now ≡ given) × IsInstant now
 IsPresent gives None now = IsTrue (gives (ClockShows (Some now))) × IsInstant now
 
 -- `table` is `before` with the zone of each file added, in order, under the name that the arguments give it: the zone
 -- that `jiff` reads from the bytes that the system gave. No name is added twice.
-abbrev pub AreZonesOf : (Said → Bool) → ZoneMap → List ZoneItem → ZoneMap → Type 0
+abbrev pub AreZonesOf : (Told → Bool) → ZoneMap → List ZoneItem → ZoneMap → Type 0
 AreZonesOf gives before [] table = table ≡ before
 AreZonesOf gives before (item ∷ items) table =
-    (bytes : List ℕ) × (tz : TimeZone) × IsTrue (gives (FileIs item.path (Ok bytes))) × IsFileZone item.name bytes tz
+    (bytes : List ℕ) × (tz : TimeZone) × IsTrue (gives (FileHolds item.path (Contents (Ok bytes)))) × IsFileZone item.name bytes tz
     × (is_taken before item.name ≡ false) × AreZonesOf gives (insert before item.name tz) items table
 
 -- `asked` is the request that the arguments and the system give together. Its verb, texts, number of elapses, base time
 -- and local zone come from the arguments; its present and its zones from the arguments, the clock and the files.
-pub record IsRequestOf (gives : Said → Bool) (ask : Ask) (asked : Request) : Type 0 where
+pub record IsRequestOf (gives : Told → Bool) (ask : Ask) (asked : Request) : Type 0 where
   pub verb : asked.verb ≡ ask.verb
   pub texts : asked.texts ≡ ask.texts
   pub iterations : asked.iterations ≡ ask.iterations
@@ -68,11 +64,6 @@ pub record AnswersTexts (asked : Request) (base : ℤ) (report : Report) : Type 
   pub cut : (front rest : List ℕ) (read : Result (List ℕ) WholeFault) → report.out ≡ front ++ rest
       → 0 < length expressions → ResumesAmong asked base expressions read front
 
--- the result of reading a timer file about which the system gave this answer
-abbrev pub timer_read : Result (List ℕ) Unreadable → Result (List ℕ) WholeFault
-timer_read (Ok bytes) = within timer_file_limit bytes
-timer_read (Err why) = Err ReadFailed
-
 -- What answers a timer file, given the result of reading it. If it was read and is accepted: its report, every prefix
 -- of which can be continued. Otherwise: an error line, which begins with the file's path.
 abbrev pub IsAnswerToFile : Request → ℤ → Result (List ℕ) WholeFault → Result (List ℕ) (List ℕ) → Type 0
@@ -83,17 +74,17 @@ IsAnswerToFile asked base (Ok bytes) (Err line) = (IsAcceptedFile asked bytes �
 IsAnswerToFile asked base (Err fault) (Ok text) = ⊥
 IsAnswerToFile asked base (Err fault) (Err line) = Begins line (timer_path asked.texts ++ codes ":")
 
--- the report is the answer to the timer file that the request names, and `found` is what the system said about this
--- file
-pub record AnswersFile (gives : Said → Bool) (asked : Request) (base : ℤ) (report : Report) : Type 0 where
-  pub found : Result (List ℕ) Unreadable
-  pub given : IsTrue (gives (FileIs (timer_path asked.texts) found))
+-- the report is the answer to the timer file that the request names, and `read` is what reading this file to its end
+-- gave
+pub record AnswersFile (gives : Told → Bool) (asked : Request) (base : ℤ) (report : Report) : Type 0 where
+  pub read : Result (List ℕ) WholeFault
+  pub given : IsTrue (gives (FileHolds (timer_path asked.texts) (Contents read)))
   pub answer : Result (List ℕ) (List ℕ)
-  pub right : IsAnswerToFile asked base (timer_read found) answer
+  pub right : IsAnswerToFile asked base read answer
   pub whole : report ≡ whole_report answer
 
 -- the report answers a request with this verb; only `calendar` and `timer` compute elapses
-abbrev pub Answers : Verb → (Said → Bool) → Request → ℤ → Report → Type 0
+abbrev pub Answers : Verb → (Told → Bool) → Request → ℤ → Report → Type 0
 Answers Calendar gives asked base report = AnswersTexts asked base report
 Answers Timer gives asked base report = AnswersFile gives asked base report
 Answers _ gives asked base report = ⊥
@@ -110,7 +101,7 @@ HasReached None reached front = ⊥
 -- The program printed the answer to what the arguments ask for, or a prefix of it. Its status is 0 only if everything
 -- was written. If everything was written, both outputs have exactly the bytes of the report, and the status is that of
 -- the report. In any case, what reached standard output is a prefix of the report.
-pub record PrintsAnswer (gives : Said → Bool) (ask : Ask) (ended : Ended) (out reached err err' : Option (List ℕ)) : Type 0 where
+pub record PrintsAnswer (gives : Told → Bool) (ask : Ask) (ended : Ended) (out reached err err' : Option (List ℕ)) : Type 0 where
   pub asked : Request
   pub request : IsRequestOf gives ask asked
   pub base : ℤ

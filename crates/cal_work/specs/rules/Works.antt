@@ -1,6 +1,6 @@
 -- From the arguments to the bytes: there is a world that consists of answers of the system, and the bytes written and
 -- the status agree with the outcome in this world. A world is everything that the outcome depends on.
-use Rattle.std.specs.Prelude.{◌≡◌, ◌≤◌, ℕ, IsTrue, Bool, true, false, List, [], ◌∷◌, length, Option, None, Some, Result, Ok, Err, IfOk, IfNone}
+use Rattle.std.specs.Prelude.{◌≡◌, ℕ, ℤ, IsTrue, Bool, true, false, List, [], ◌∷◌, Option, None, Some, Result, Ok, Err, IfOk, IfNone}
 use Rattle.std.specs.FinMap.{empty}
 use Rattle.std.specs.Io.KnownBytes.{Keeps, Appends, append_known}
 use Rattle.jiff.specs.Placed.{IsPosixZone}
@@ -8,7 +8,7 @@ use Rattle.jiff.specs.Types.{TimeZone, Offset}
 use Rattle.jiff.specs.Words.{fixed_zone}
 use Rattle.cal_bytes.specs.rules.Writes.{AppendsFront, Writes}
 use Rattle.cal_zone.specs.rules.Zone.{is_utc, utc, zone_of}
-use Rattle.cal_zone.specs.rules.ZoneFile.{file_limit, IsFileFault, IsFileZone}
+use Rattle.cal_zone.specs.rules.ZoneFile.{IsFileFault, IsFileZone}
 use Rattle.cal_zone.specs.rules.ZoneTable.{ZoneMap, zone_named}
 use Rattle.cal_civil.specs.rules.ZoneName.{is_utc_name, is_zone_name}
 use Rattle.cal_zone.specs.declared.zone.Zone.{Zone as ClockZone}
@@ -20,7 +20,8 @@ use Rattle.cal_work.specs.rules.Outcome.{World, ZoneFound, loaded, table_by, loc
 use Rattle.cal_request.specs.rules.RequestKind.{RequestKind, for_file, for_texts, kind_of}
 use Rattle.cal_request.specs.rules.Request.{Request}
 use Rattle.cal_work.specs.rules.Stop.{fault_stop}
-use Rattle.cal_machine.specs.rules.Seen.{Said, ClockShows}
+use Rattle.cal_machine.specs.rules.Told.{ClockShows, Contents, Told, Unopened}
+use Rattle.cal_report.specs.rules.BaseTime.{IsBase}
 use Rattle.cal_work.specs.rules.FileAnswer.{FileAnswer, Gave}
 use Rattle.cal_request.specs.declared.request.RunFault.{RunFault}
 use Rattle.cal_work.specs.declared.arguments_to_bytes.Ended.{Ended}
@@ -33,20 +34,21 @@ abbrev pub IsReadZone : List ℕ → List ℕ → Option TimeZone → Type 0
 IsReadZone name bytes None = IsFileFault name bytes BadFile
 IsReadZone name bytes (Some zone) = IsFileZone name bytes zone
 
--- if the program passes the file to `jiff` (it was read, its zone's name is valid, and it isn't too large), then `read`
--- is the zone that `jiff` reads from it, or None if `jiff` rejects it
+-- if the program passes the file to `jiff` (it was read, and its zone's name is valid), then `tz` is the zone that `jiff`
+-- reads from it, or None if `jiff` rejects it
 abbrev pub ReadsZone : List ℕ → FileAnswer → Option TimeZone → Type 0
-ReadsZone name None read = Unit {0}
-ReadsZone name (Some (Err why)) read = Unit {0}
-ReadsZone name (Some (Ok bytes)) read = is_zone_name name ≡ true → length bytes ≤ file_limit → IsReadZone name bytes read
+ReadsZone name None tz = Unit {0}
+ReadsZone name (Some Unopened) tz = Unit {0}
+ReadsZone name (Some (Contents (Err fault))) tz = Unit {0}
+ReadsZone name (Some (Contents (Ok bytes))) tz = is_zone_name name ≡ true → IsReadZone name bytes tz
 
-pub record SeesZone (gives : Said → Bool) (item : ZoneItem) (found : ZoneFound) : Type 0 where
+pub record SeesZone (gives : Told → Bool) (item : ZoneItem) (found : ZoneFound) : Type 0 where
   pub given : Gave gives item.path found.answer
   pub reads : ReadsZone item.name found.answer found.zone
 
 -- `found` is what the program finds in the zone files, in order. The files after the first one that can't be loaded are
 -- not read, so nothing is required of their entries in `found`.
-abbrev pub SeesZones : (Said → Bool) → ZoneMap → List ZoneItem → List ZoneFound → Type 0
+abbrev pub SeesZones : (Told → Bool) → ZoneMap → List ZoneItem → List ZoneFound → Type 0
 SeesZones gives table [] found = Unit {0}
 SeesZones gives table (item ∷ items) [] = ⊥
 SeesZones gives table (item ∷ items) (f ∷ found) =
@@ -61,27 +63,43 @@ IsLocal (by_rule rule) table zone = (is_utc zone ≡ false) × IsPosixZone rule 
 IsLocal (of_name name) table zone = (is_utc zone ≡ is_utc_name name) × (zone_named table name ≡ Some (zone_of zone))
 
 -- the system gave this answer about the timer file, if the request is for one
-abbrev pub SeesFor : RequestKind → (Said → Bool) → FileAnswer → Type 0
+abbrev pub SeesFor : RequestKind → (Told → Bool) → FileAnswer → Type 0
 SeesFor (for_texts verb texts) gives answer = Unit {0}
 SeesFor (for_file path) gives answer = Gave gives path answer
 
-abbrev pub SeesFile : (Said → Bool) → Request → FileAnswer → Type 0
+abbrev pub SeesFile : (Told → Bool) → Request → FileAnswer → Type 0
 SeesFile gives asked answer = SeesFor (kind_of asked) gives answer
 
-abbrev pub FitsAt : (Said → Bool) → Ask → World → ZoneMap → Type 0
-FitsAt gives ask world table =
-    IfOk (local_by ask.local table world.local) (λ local. IsLocal ask.local table local
-    × IfNone ask.now (IsTrue (gives (ClockShows world.clock)))
-    × IfOk (present_by ask.now world.clock) (λ now. SeesFile gives (asked_at ask table local now) world.file))
+-- unless the work stops before the run, `P` is true of the request that is run
+abbrev pub IfRun : Ask → World → (Request → Type 0) → Type 0
+IfRun ask world P =
+    IfOk (table_by empty ask.zones world.zones) (λ table.
+    IfOk (local_by ask.local table world.local) (λ local.
+    IfOk (present_by ask.now world.clock) (λ now. P (asked_at ask table local now))))
 
-pub record Fits (gives : Said → Bool) (ask : Ask) (world : World) : Type 0 where
+pub record Fits (gives : Told → Bool) (ask : Ask) (world : World) : Type 0 where
   pub zones : SeesZones gives empty ask.zones world.zones
-  pub after : IfOk (table_by empty ask.zones world.zones) (FitsAt gives ask world)
+  pub after : IfOk (table_by empty ask.zones world.zones) (λ table.
+      IfOk (local_by ask.local table world.local) (λ local. IsLocal ask.local table local
+      × IfNone ask.now (IsTrue (gives (ClockShows world.clock)))))
+  pub file : IfRun ask world (λ asked. SeesFile gives asked world.file)
 
 -- `world.parsed` is what the arguments parse to, and everything else in the world fits what they ask for
-pub record FitsArguments (gives : Said → Bool) (arguments : List (List ℕ)) (world : World) : Type 0 where
+pub record FitsArguments (gives : Told → Bool) (arguments : List (List ℕ)) (world : World) : Type 0 where
   pub parsed : IsAskOf arguments world.parsed
   pub fits : IfOk world.parsed (λ ask. Fits gives ask world)
+
+-- ## What is left of the timer file
+
+-- If the request is for a timer file that could be opened, and its base time is invalid, nothing was read from the
+-- file. `is_unread path` says that at the end, the file at this path is open, and nothing was read from it.
+abbrev pub LeavesUnread : (List ℕ → Bool) → Request → RequestKind → FileAnswer → Type 0
+LeavesUnread is_unread asked (for_file path) (Some (Contents read)) = ((base : ℤ) → IsBase asked base → ⊥) → IsTrue (is_unread path)
+LeavesUnread is_unread asked kind answer = Unit {0}
+
+-- `LeavesUnread` for the request that is run, unless the work stops before the run
+abbrev pub LeavesFileUnread : (List ℕ → Bool) → Ask → World → Type 0
+LeavesFileUnread is_unread ask world = IfRun ask world (λ asked. LeavesUnread is_unread asked (kind_of asked) world.file)
 
 -- ## What reaches the outputs
 
@@ -105,11 +123,13 @@ pub record WritesErr {T : Type 0} (old new : Option (List ℕ)) (failed : Bool) 
   pub text_bytes : Writes old before written text
   pub line : ReportsFault before new failed written
 
--- the status and the bytes that the program wrote agree, as `Reaches` and `WritesErr` say, with the outcome in a world
--- that fits the arguments and has only answers of the system
-pub record Works (gives : Said → Bool) (arguments : List (List ℕ)) (out reached err err' : Option (List ℕ)) (err_failed : Bool) (ended : Ended) : Type 0 where
+-- The status and the bytes that the program wrote agree, as `Reaches` and `WritesErr` say, with the outcome in a world
+-- that fits the arguments and has only answers of the system. If the base time is invalid in this world, the timer file
+-- was left unread, as `LeavesFileUnread` says.
+pub record Works (gives : Told → Bool) (is_unread : List ℕ → Bool) (arguments : List (List ℕ)) (out reached err err' : Option (List ℕ)) (err_failed : Bool) (ended : Ended) : Type 0 where
   pub world : World
   pub fits : FitsArguments gives arguments world
+  pub unread : IfOk world.parsed (λ ask. LeavesFileUnread is_unread ask world)
   pub status : ended.status ≡ ended_status ended.written (outcome world)
   pub out_bytes : Reaches out reached ended.written (out_text (outcome world))
   pub err_bytes : WritesErr err err' err_failed ended.written (err_text (outcome world))

@@ -1,6 +1,7 @@
 use Rattle.std.proofs.Common.{ap, refl, sym, ◌∙◌}
 use Rattle.std.proofs.lemmas.Bool.{false≢true}
 use Rattle.cal_request.specs.rules.Verb.{is_timer, seeks_elapses}
+use Rattle.cal_report.proofs.BaseLemmas.{no_base}
 use Rattle.cal_report.proofs.ReportLemmas.{file_reported, is_cut, sought_by, texts_reported, timer_by}
 use Rattle.cal_report.proofs.report.run.Goals as goal
 
@@ -18,6 +19,7 @@ returns-in-Texts g c =
           let cut = c.run_texts.ensures.cut refused in
           is_cut _ cut.0 _ _ _ _ _ cut.1 kind cut.2;
       input = λ _. refl;
+      unread = λ _. refl;
       sure = λ _. c.requires.input;
     }
 
@@ -34,5 +36,6 @@ returns-in-Timer g c =
           let cut = c.run_timer.ensures.cut refused in
           is_cut _ cut.0 _ _ _ _ _ cut.1 kind (cut.2, cut.3);
       input = λ plain. absurd (false≢true (sym plain ∙ ap is_timer (timer_by _ _ _ kind)));
+      unread = no_base _ _ c.run_timer.ensures.unread;
       sure = c.run_timer.ensures.sure;
     }

@@ -16,6 +16,7 @@ returns-in-Err g c =
       out_failed = c.requires.out ∙ sym c.report_error.ensures.out_failed;
       err_failed = c.report_error.ensures.err_failed;
       cut = λ refused. absurd (c.report_error.ensures.memory refused);
+      unread = refl;
     })
 
 pub returns-in-Ok : goal.returns-in-Ok
@@ -29,4 +30,5 @@ returns-in-Ok g c =
       cut = λ refused.
           let same = c.answer_timer.ensures.unwritten refused in
           (c.in-Ok.base.secs, refl, same.0, same.1);
+      unread = tt;
     })

@@ -9,5 +9,5 @@ returns-in-Some g c = rw c.in-Some.is (record { clock = None; asked = tt; answer
 pub returns-in-None : goal.returns-in-None
 unfolding present_by
 returns-in-None g c =
-    let read = c.read_system_clock.ensures in
+    let read = c.read_clock.ensures in
     rw c.in-None.is (record { clock = read.clock; asked = read.is_time; answers = read.answers })

@@ -6,4 +6,4 @@ use Rattle.cal_work.proofs.WorkLemmas.{GoesOn}
 use Rattle.cal_work.proofs.arguments_to_bytes.read_zones.Given as goal
 
 abbrev pub invariant-loop-item : goal.invariant-loop-item
-invariant-loop-item g l = GoesOn g.S.System.gives (map shown_item l.items) l.table (map shown_item (drop l.item-index l.items))
+invariant-loop-item g l = GoesOn g.S.Inputs.gives (map shown_item l.items) l.table (map shown_item (drop l.item-index l.items))

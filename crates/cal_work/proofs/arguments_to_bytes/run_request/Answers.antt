@@ -7,9 +7,9 @@ pub returns-in-Texts-clause-runs : goal.returns-in-Texts-clause-runs
 returns-in-Texts-clause-runs g c =
     let kind = rw c.in-Texts.is at c.kind.ensures in
     let same : c.map_err.result ≡ ran c.run_texts.result = search rules in
-    rw same (texts_run _ _ _ _ _ _ _ _ _ kind c.run_texts.ensures.status c.run_texts.ensures.out c.run_texts.ensures.err)
+    rw same (texts_run _ _ _ _ _ _ _ _ _ _ kind c.run_texts.ensures.status c.run_texts.ensures.out c.run_texts.ensures.err)
 
 pub returns-in-Timer-clause-runs : goal.returns-in-Timer-clause-runs
 returns-in-Timer-clause-runs g c =
     let kind = rw c.in-Timer.is at c.kind.ensures in
-    runs_file _ _ _ _ _ _ _ _ kind c.run_file.ensures.runs
+    runs_file _ _ _ _ _ _ _ _ _ kind c.run_file.ensures.runs
