@@ -7,6 +7,7 @@ use std::test::Fail;
 
 mod counts;
 mod faults;
+mod fields;
 mod normal_texts;
 mod offsets;
 mod refusals;

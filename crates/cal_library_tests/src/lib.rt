@@ -9,6 +9,8 @@ mod elapses;
 #[cfg(test)]
 mod expressions;
 #[cfg(test)]
+mod faults;
+#[cfg(test)]
 mod instants;
 pub mod memory;
 #[cfg(test)]

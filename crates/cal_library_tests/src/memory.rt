@@ -1,7 +1,10 @@
 //! A system in memory: files, links and folders at given paths, and a clock that stands still.
 
+ghost use Rattle.std.specs.Prelude.{◌==◌};
+
 use crate::shared::NEW_YEAR;
-use cal_machine::{Entry, Names, System, TreeFault, Unreadable};
+use cal_base::Source;
+use cal_machine::{Entry, Inputs, Names, OpenFault, System, TreeFault, Unreadable};
 use std::alloc::{AllocError, Global};
 
 /// What is at a path.
@@ -119,5 +122,72 @@ impl<'a> System for MemorySystem<'a> {
 
     fn below(self, _root: String) -> MemorySystem<'a> {
         self
+    }
+}
+
+/// The files and the clock of a [`MemorySystem`], as `calendar-analyze` reads them: one file after another.
+#[derive(Clone, Copy)]
+pub struct MemoryInputs<'a> {
+    system: MemorySystem<'a>,
+    /// The bytes still to come of the file that was opened last.
+    left: &'a [u8],
+    /// Whether reading the file that was opened last fails.
+    is_locked: bool,
+    has_failed: bool,
+    /// How many calls of `fetch` were made since a file was opened.
+    pub fetches: u32,
+}
+
+impl<'a> MemoryInputs<'a> {
+    /// Returns the files and the clock of this system. No file is open.
+    pub fn new(system: MemorySystem<'a>) -> MemoryInputs<'a> {
+        MemoryInputs {
+            system,
+            left: b"",
+            is_locked: false,
+            has_failed: false,
+            fetches: 0,
+        }
+    }
+}
+
+impl<'a> Source for MemoryInputs<'a> {
+    ghost is_failed = { λ inputs. inputs.has_failed };
+
+    fn fetch(&mut self, into: &mut [u8]) -> Option<usize> {
+        self.fetches = self.fetches.saturating_add(1);
+        if self.is_locked {
+            self.has_failed = true;
+            return None;
+        }
+        let count = into.len().min(self.left.len());
+        let (front, left) = self.left.split_at(count);
+        into[..count].copy_from_slice(front);
+        self.left = left;
+        Some(count)
+    }
+}
+
+impl<'a> Inputs for MemoryInputs<'a> {
+    ghost opens = { λ inputs _. inputs.fetches == 0 };
+
+    fn open(&mut self, path: &str) -> Result<(), OpenFault> {
+        let (left, is_locked): (&'a [u8], bool) = match self.system.at(path) {
+            Some(Item::File(bytes)) => (bytes, false),
+            Some(Item::Locked) => (b"", true),
+            _ => return Err(OpenFault::Unopened),
+        };
+        *self = MemoryInputs {
+            system: self.system,
+            left,
+            is_locked,
+            has_failed: false,
+            fetches: 0,
+        };
+        Ok(())
+    }
+
+    fn clock(&self) -> Option<i64> {
+        self.system.time
     }
 }

@@ -184,3 +184,13 @@ fn lines(rt: HostRuntime) -> Result<(), Fail> {
     check(rt.alloc(), COMMANDS)?;
     check(rt.alloc(), OTHERS)
 }
+
+/// Without any arguments, `clap` reports that the verb is missing.
+#[test]
+fn no_arguments(rt: HostRuntime) -> Result<(), Fail> {
+    let Err(CommandFault::Usage(text)) = Ask::of(rt.alloc(), &[]) else {
+        return Err("no arguments".into());
+    };
+    let start = "error: 'calendar-analyze' requires a subcommand but one was not provided\n";
+    ensure(text.as_str().starts_with(start), "no arguments")
+}

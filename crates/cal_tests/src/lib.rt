@@ -5,9 +5,13 @@
 #[cfg(test)]
 mod command_lines;
 #[cfg(test)]
+mod faults;
+#[cfg(test)]
 mod refused;
 #[cfg(test)]
 mod reports;
+#[cfg(test)]
+mod stops;
 #[cfg(test)]
 mod work;
 #[cfg(test)]

@@ -3,9 +3,10 @@
 
 mod answers;
 mod failures;
+mod reads;
 
 use cal_bytes::Port;
-use cal_library_tests::memory::MemorySystem;
+use cal_library_tests::memory::{MemoryInputs, MemorySystem};
 use cal_library_tests::shared::ensure;
 use cal_work::work;
 use std::alloc::Global;
@@ -41,7 +42,8 @@ fn perform_arguments(
 ) -> Result<Done, Fail> {
     let mut out = Port::new(BufWriter::new(alloc, Vec::new(alloc))?);
     let mut err = Port::new(Vec::new(alloc));
-    let ended = work(alloc, &system, arguments, &mut out, &mut err);
+    let mut inputs = MemoryInputs::new(system);
+    let ended = work(alloc, &mut inputs, arguments, &mut out, &mut err);
     Ok(Done::of(out, err, ended.status))
 }
 

@@ -18,7 +18,7 @@ type Counted = (&'static [(u32, &'static str)], Result<Lines, TimerFault>);
 
 /// A file may have up to 256 expressions, not counting expressions that an empty `OnCalendar=` has dropped. The error
 /// has the line number of the first expression or exception over the limit.
-static COUNTED: [Counted; 4] = [
+static COUNTED: [Counted; 5] = [
     (
         &[(256, DAILY), (1, RESET), (1, "OnCalendar=hourly")],
         Ok(&[(259, "hourly")]),
@@ -29,6 +29,11 @@ static COUNTED: [Counted; 4] = [
         Err(TimerFault::TooMany(258)),
     ),
     (&[(257, DAILY)], Err(TimerFault::TooMany(258))),
+    // An empty `OnCalendar=` after the expression over the limit comes too late.
+    (
+        &[(257, DAILY), (1, RESET), (1, "OnCalendar=hourly")],
+        Err(TimerFault::TooMany(258)),
+    ),
     // In the last row, the expression over the limit is invalid, but isn't parsed.
     (
         &[(256, DAILY), (1, "OnCalendar=x!")],

@@ -2,9 +2,11 @@
 
 use super::{CALENDAR, KnownZones, Local, Row, check, check_input, known_zones};
 use cal_bytes::{Faulty, Port, Then};
-use cal_library_tests::shared::{EXCEPT_FILE, NEW_YEAR, TIMER_FILE};
+use cal_library_tests::memory::{Item, MemoryInputs, MemorySystem};
+use cal_library_tests::shared::{EXCEPT_FILE, NEW_YEAR, TIMER_FILE, ensure};
+use cal_machine::Inputs;
 use cal_request::Verb;
-use std::alloc::Global;
+use std::alloc::{AllocError, Global};
 use std::test::Fail;
 
 /// A request for the next elapse of the timer file `t`.
@@ -140,6 +142,35 @@ fn exceptions(rt: HostRuntime) -> Result<(), Fail> {
     check(rt.alloc(), &EXCEPTIONS)
 }
 
+const NEXT_MIDNIGHT: &str = "    Next elapse: Tue 2024-01-02 00:00:00 UTC
+       From now: 1d left
+";
+
+/// Returns a file with as many expressions as a file may have, and then its report, separated by `|`.
+fn largest_list(alloc: Global) -> Result<String, AllocError> {
+    let line = "OnCalendar=daily\n".repeat(alloc, 256)?;
+    let heading = "  Original form: daily\nNormalized form: *-*-* 00:00:00\n".repeat(alloc, 256)?;
+    let mut texts = String::from_str(alloc, "[Timer]\n")?;
+    texts.push_str(line.as_str())?;
+    texts.push('|')?;
+    texts.push_str(heading.as_str())?;
+    texts.push_str(NEXT_MIDNIGHT)?;
+    Ok(texts)
+}
+
+#[test]
+fn as_many_expressions_as_possible(rt: HostRuntime) -> Result<(), Fail> {
+    let texts = largest_list(rt.alloc())?;
+    let (file, report) = texts.split_once('|').ok_or("no report")?;
+    let row = Row {
+        about: "256 expressions",
+        input: file.as_bytes(),
+        out: report,
+        ..TIMER
+    };
+    check(rt.alloc(), &[row])
+}
+
 /// An invalid file is rejected as a whole, with one error line.
 static REFUSED_TIMERS: [Row<'static>; 4] = [
     Row {
@@ -241,4 +272,27 @@ fn endless_readers(rt: HostRuntime) -> Result<(), Fail> {
         check_readers(rt.alloc(), &row, &[reader])?;
     }
     Ok(())
+}
+
+/// Runs the request of the row, and returns how many calls of `fetch` the run made.
+fn fetches_of(alloc: Global, row: &Row<'_>) -> Result<u32, Fail> {
+    let zones = known_zones(alloc)?;
+    let items = [("t", Item::File(row.input))];
+    let mut inputs = MemoryInputs::new(MemorySystem::new(&items));
+    let Ok(()) = inputs.open("t") else {
+        return Err("t can't be opened".into());
+    };
+    check_input(alloc, row, &zones, &mut inputs)?;
+    Ok(inputs.fetches)
+}
+
+/// Checks that nothing is read if the base time is invalid.
+#[test]
+fn readers_of_an_invalid_base(rt: HostRuntime) -> Result<(), Fail> {
+    let refused = Row {
+        base: Some("x"),
+        ..unread(&EXCEPT_TIMER, "--base-time: bad weekday\n")
+    };
+    ensure(fetches_of(rt.alloc(), &refused)? == 0, "a refused base")?;
+    ensure(fetches_of(rt.alloc(), &EXCEPT_TIMER)? > 0, "a valid base")
 }

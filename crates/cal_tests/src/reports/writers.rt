@@ -156,6 +156,84 @@ fn second_runs(rt: HostRuntime) -> Result<(), Fail> {
     check(rt.alloc(), &EXCEPT_TIMER_RESUMED)
 }
 
+/// Appends the elapses in the complete lines of a report, each followed by a line feed. The last line may be cut off.
+fn push_elapses(elapses: &mut String, report: &[u8]) -> Result<(), Fail> {
+    let (lines, _cut_off) = str::from_utf8(report)?
+        .rsplit_once('\n')
+        .unwrap_or(("", ""));
+    for line in lines.lines() {
+        if line.starts_with("    Next elapse: ") || line.starts_with("       Iter. #") {
+            let (_label, elapse) = line.split_once(": ").ok_or("no label")?;
+            elapses.push_str(elapse)?;
+            elapses.push('\n')?;
+        }
+    }
+    Ok(())
+}
+
+/// Runs a row with a writer that fails after `limit` bytes of its reports, and appends the elapses that it has then.
+fn push_run(
+    alloc: Global,
+    elapses: &mut String,
+    row: &Row<'_>,
+    zones: &KnownZones,
+    limit: usize,
+) -> Result<(), Fail> {
+    let mut out = Port::new(Faulty::new(Vec::new(alloc), 3, limit, Then::Error));
+    let mut err = Port::new(Vec::new(alloc));
+    let mut input = Port::new(row.input);
+    let _ended = run_row(alloc, row, zones, &mut input, &mut out, &mut err)?;
+    push_elapses(elapses, out.into_inner().bytes())
+}
+
+/// Cuts the report of the first row off after `limit` bytes, and runs the row that continues it: the row at index `k`
+/// if `k` elapses are complete, and none if all are. Expects both runs together to have the elapses `all`.
+fn check_resumed(
+    alloc: Global,
+    rows: &[Row<'_>],
+    zones: &KnownZones,
+    limit: usize,
+    all: &str,
+) -> Result<(), Fail> {
+    let first = rows.first().ok_or("no rows")?;
+    let mut elapses = String::new(alloc);
+    push_run(alloc, &mut elapses, first, zones, limit)?;
+    if let Some(second) = rows.get(elapses.lines().count()) {
+        push_run(alloc, &mut elapses, second, zones, second.out.len())?;
+    }
+    ensure(elapses.as_str() == all, first.about)
+}
+
+/// The elapses of [`EVERY_SECOND`].
+const EVERY_SECOND_ELAPSES: &str = "\
+Mon 2024-01-01 05:30:01 +05:30
+Mon 2024-01-01 05:30:02 +05:30
+Mon 2024-01-01 05:30:03 +05:30
+";
+
+/// The elapses of [`EXCEPT_TIMER`].
+const EXCEPT_TIMER_ELAPSES: &str = "\
+Fri 2024-01-05 12:00:00 UTC
+Mon 2024-01-08 12:00:00 UTC
+";
+
+/// Checks the first row with its reports cut off at every length, from no bytes to all of them.
+fn check_all_resumed(alloc: Global, rows: &[Row<'_>], all: &str) -> Result<(), Fail> {
+    let zones = known_zones(alloc)?;
+    let first = rows.first().ok_or("no rows")?;
+    let report = first.out.as_bytes();
+    for limit in 0..=report.len() {
+        check_resumed(alloc, rows, &zones, limit, all)?;
+    }
+    Ok(())
+}
+
+#[test]
+fn reports_that_are_resumed(rt: HostRuntime) -> Result<(), Fail> {
+    check_all_resumed(rt.alloc(), &EVERY_SECOND_RESUMED, EVERY_SECOND_ELAPSES)?;
+    check_all_resumed(rt.alloc(), &EXCEPT_TIMER_RESUMED, EXCEPT_TIMER_ELAPSES)
+}
+
 /// Checks a run whose writer of error lines fails after `front`, a prefix of the error lines. Expects the writer to
 /// have exactly this prefix, the run to report the failure unless nothing is missing, and all reports of the row to be
 /// written.
@@ -203,8 +281,15 @@ const REFUSED_BASE: Row<'static> = Row {
     ..CALENDAR
 };
 
-/// Rows whose error lines are written after all of their reports.
-static CUT_REFUSALS: [Row<'static>; 3] = [ONE_REFUSED, SPAN_LIST, REFUSED_BASE];
+/// Rows whose error lines, if they have any, are written after all of their reports.
+static CUT_REFUSALS: [Row<'static>; 6] = [
+    ONE_REFUSED,
+    SPAN_LIST,
+    REFUSED_BASE,
+    EVERY_SECOND,
+    CONTINUED_TIMER,
+    EXCEPT_TIMER,
+];
 
 #[test]
 fn refusals_that_are_cut(rt: HostRuntime) -> Result<(), Fail> {

@@ -2,7 +2,7 @@
 
 use super::{check, perform};
 use cal_bytes::{Faulty, Port, Then};
-use cal_library_tests::memory::{Item, MemorySystem};
+use cal_library_tests::memory::{Item, MemoryInputs, MemorySystem};
 use cal_library_tests::shared::{ensure, zone_file};
 use cal_request::RunFault;
 use cal_work::{Ended, work};
@@ -54,11 +54,11 @@ fn files_that_are_rejected(rt: HostRuntime) -> Result<(), Fail> {
 /// Runs the program with a standard output that fails after 3 bytes. Expects standard output to have the first 3 bytes
 /// of `whole`, standard error to report the failure, and the status to be 1.
 fn check_cut_out(alloc: Global, args: &[&str], whole: &[u8]) -> Result<(), Fail> {
-    let memory = MemorySystem::new(&[]);
+    let mut inputs = MemoryInputs::new(MemorySystem::new(&[]));
     let writer = Faulty::new(Vec::new(alloc), 7, 3, Then::Error);
     let mut out = Port::new(BufWriter::new(alloc, writer)?);
     let mut err = Port::new(Vec::new(alloc));
-    let ended = work(alloc, &memory, args, &mut out, &mut err);
+    let ended = work(alloc, &mut inputs, args, &mut out, &mut err);
     let want = Ended {
         status: 1,
         written: Err(RunFault::OutFailed),
@@ -89,10 +89,10 @@ fn outputs_that_fail(rt: HostRuntime) -> Result<(), Fail> {
 /// Runs the program with a standard error that fails after 3 bytes. Expects standard error to have `front`, the first 3
 /// bytes of the error line, and the status to be the one that the run would have without the failure.
 fn check_cut_err(alloc: Global, args: &[&str], front: &str, status: u8) -> Result<(), Fail> {
-    let memory = MemorySystem::new(&[]);
+    let mut inputs = MemoryInputs::new(MemorySystem::new(&[]));
     let mut out = Port::new(BufWriter::new(alloc, Vec::new(alloc))?);
     let mut err = Port::new(Faulty::new(Vec::new(alloc), 7, 3, Then::Zero));
-    let ended = work(alloc, &memory, args, &mut out, &mut err);
+    let ended = work(alloc, &mut inputs, args, &mut out, &mut err);
     let want = Ended {
         status,
         written: Err(RunFault::ErrFailed),
