@@ -102,6 +102,12 @@ class Progress:
             print(line, file=sys.stderr, flush=True)
         self.shown = text
 
+    def say(self, text):
+        """Prints a line that stays."""
+        self.end()
+        print(f"{self.name}: {text}", file=sys.stderr, flush=True)
+
     def end(self):
         if self.is_terminal and self.shown:
             print(file=sys.stderr)
+        self.shown = ""
