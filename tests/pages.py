@@ -3,13 +3,15 @@
 
     tests/pages.py [--headline]
 
-In README, CONTRIBUTING, CHANGELOG, docs/ and the README of each crate
+In README, CONTRIBUTING, CHANGELOG, docs/, must-fail/README.md and the README of each crate
 
 - each link leads to a file and a heading that exist;
 - each path and file name in code quotes exists, and each name that looks like code (with `::` or `_`, or of several words)
   occurs in a file that is not a page;
 - each number of crates, transcripts and the like is right; a number with commas occurs in a file that is neither a page
   nor a test, unless the page reports measurements.
+
+The comment of each enum in NUMBERED, and the tests, number its variants in the order in which they are declared.
 
 cal_base re-exports everything public of the crates that it names, and cal_read everything public of cal_stamp and
 cal_timer.
@@ -19,9 +21,9 @@ docs/MAP.md names, each with the law that ties it to a rule. The clause `headlin
 rest only on files in specs/rules/ and on such functions, and docs/MAP.md says on how many files; `tests/pages.py
 --headline` lists these definitions. docs/HEADLINE.md shows formal text as it is in its files. README quotes its
 sentence, has figures of docs/SPEED.md and a link to each page; docs/PROVED.md names each crate, and
-docs/MAP.md each crate and each script of ./test. A must-fail edit on a page is one of the tree's. The README of a crate
-quotes code of the tests that it names. The outputs that the pages show are tested by tests/examples.py,
-tests/recipes.py and tests/differences.py.
+docs/MAP.md each crate and each script of ./test. Each must-fail edit that a page names exists in the tree, and so does
+each edit in the table of must-fail/README.md. The README of a crate quotes code of the tests that it names. The outputs
+that the pages show are tested by tests/examples.py, tests/recipes.py and tests/differences.py.
 
 The kit that CONTRIBUTING names and the kit installed here have the same logic. If they don't, or if there is no `rt`, this is
 skipped. The last line is 'N passed, M failed', with ', 1 skipped' in that case."""
@@ -35,7 +37,9 @@ import subprocess
 import sys
 
 ROOT = os.path.dirname(os.path.dirname(os.path.realpath(__file__)))
-PAGES = ["README.md", "CONTRIBUTING.md", "CHANGELOG.md"]
+# The page that names the must-fail edits that stay, each as CRATE/EDIT.
+PLANTED = "must-fail/README.md"
+PAGES = ["README.md", "CONTRIBUTING.md", "CHANGELOG.md", PLANTED]
 FORMAL = [
     "crates/cal_report/specs/rules/Headline.antt",
     "crates/cal_spec/specs/rules/NormalForm.antt",
@@ -195,6 +199,29 @@ def tied():
     return {(crate, name): (home or crate, law) for name, crate, law, home in rows}
 
 
+# The errors that the language can't number, because some variants hold data: each enum with its file.
+NUMBERED = {
+    "StampFault": "crates/cal_stamp/src/fault.rt",
+    "TimerFault": "crates/cal_timer/src/fault.rt",
+    "LoadFault": "crates/cal_zone/src/zone_files.rt",
+    "CommandFault": "crates/cal_command/src/command_fault.rt",
+}
+
+
+def misnumbered(tree, name):
+    """Yields where the numbers of an enum's variants differ from their order: in the enum's comment, or in the tests."""
+    enum = re.search(rf"((?:///.*\n)+)(?:#\[.*\n)*pub enum {name} {{\n(.*?)\n}}", text_of(NUMBERED[name]), re.S)
+    variants = re.findall(r"^    (\w+)", enum[2], re.M)
+    tests = " ".join(text_of(path) for path in tree.tests if path.endswith("/src/faults.rt"))
+    data = r"(?:\((?:[^()]|\([^()]*\))*\))?"
+    found = {
+        "its comment": re.findall(r"^/// \| (\d+) +\| `(\w+)` +\|$", enum[1], re.M),
+        "the tests": [(number, variant) for variant, number in re.findall(rf"{name}::(\w+){data},\s*(\d+),", tests)],
+    }
+    right = [(str(number), variant) for number, variant in enumerate(variants, 1)]
+    yield from (f"the numbers of {name} in {where} aren't {right}" for where, numbers in found.items() if numbers != right)
+
+
 # What only selects a part of something by its name, and so needs no law.
 SELECTORS = {("cal_spec", "component"), ("cal_spec", "members_of")}
 
@@ -324,6 +351,16 @@ def of_readme(tree):
     yield from unnamed("README.md", [path for path in tree.files if path.startswith("docs/")], "the page")
 
 
+def lost_edits(tree):
+    """Yields the edits in the table of must-fail/README.md that the tree doesn't have, and a row that names none."""
+    rows = re.findall(r"^\| ([^|]*) \| ([^|]*) \| [^|]* \|$", text_of(PLANTED), re.M)[1:]
+    for bug, edits in rows or [("the table", "")]:
+        named = [path.partition("/") for path in QUOTED.findall(edits)]
+        yield from [] if named else [f"no edit for: {bug}"]
+        paths = [f"crates/{crate}/must-fail/{name}.edit" for crate, _, name in named]
+        yield from (f"the edit {path}, which does not exist" for path in paths if path not in tree.files)
+
+
 def differences(tree, page):
     """Returns what a page says that doesn't fit the tree."""
     text = without_blocks(text_of(page))
@@ -340,6 +377,8 @@ def differences(tree, page):
         found += of_readme(tree)
     if page == "docs/HEADLINE.md":
         found += formal(page)
+    if page == PLANTED:
+        found += lost_edits(tree)
     if page.startswith("crates/"):
         found += tree.example(page)
     return sorted({difference for difference in found if difference})
@@ -366,6 +405,7 @@ def main():
     found = {page: differences(tree, page) for page in pages if page not in missing}
     found |= {"the headline": [*outside_rules()], "the definitions": [*of_folders(tree), *without_law()]}
     found |= {facade: [*withheld_by(facade)] for facade in FACADES}
+    found |= {name: [*misnumbered(tree, name)] for name in NUMBERED}
     found["the tree"] = [f"there is no {page}" for page in missing]
     for where, wrong in found.items():
         for difference in wrong:
