@@ -2,6 +2,7 @@ mod CronLemmas
 mod CrontabTimerLemmas
 mod ErrorLemmas
 pub mod FoundLemmas
+pub mod GuardLawLemmas
 mod LintFileLemmas
 mod LintLawLemmas
 mod LintLemmas

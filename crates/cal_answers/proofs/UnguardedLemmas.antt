@@ -1,19 +1,19 @@
 -- Lemmas on the timers with exceptions that systemd ignores.
-use Rattle.std.proofs.Common.{◌≡◌, ◌+◌, ◌-◌, ◌<◌, ◌≤◌, ◌∙◌, ℕ, Bool, Bor, false, true, List, [], ◌∷◌, ◌++◌, Option, None, Some, add-one, ap, arith, filter, get_or, length, map, refl, string_bytes, sym, take, take-suc}
-use Rattle.std.specs.Prelude.{◌&&◌, MatchOption, codes, if◌then◌else◌, nat_eq, slice_get}
-use Rattle.std.specs.List.{ends_with}
-use Rattle.std.specs.Option.{option_map}
+use Rattle.std.proofs.Common.{◌≡◌, ◌+◌, ◌-◌, ◌<◌, ◌≤◌, ◌∙◌, ℕ, Bool, Bor, false, true, List, [], ◌∷◌, ◌++◌, Option, None, Some, add-one, ap, arith, get_or, length, refl, string_bytes, sym, take, take-suc}
+use Rattle.std.specs.Prelude.{MatchOption, codes, if◌then◌else◌, nat_eq, slice_get}
+use Rattle.std.specs.List.{ends_with, filter_map}
+use Rattle.std.specs.Option.{option_map, option_to_list}
 use Rattle.std.specs.Str.{IsCharBoundary}
 use Rattle.std.specs.Str.Pattern.{FindsTextSuffix, StripsSuffix}
 use Rattle.std.proofs.lemmas.Str.Pattern.{ends_text}
-use Rattle.std.proofs.lemmas.List.{map-append}
-use Rattle.std.proofs.lemmas.List.Elements.{filter-append}
+use Rattle.std.proofs.lemmas.List.Elements.{filter_map-append}
 use Rattle.cal_machine.specs.rules.Machine.{Machine}
 use Rattle.cal_unit_index.specs.declared.files.UnitText.{UnitText}
 use Rattle.cal_load.specs.declared.loaded.LoadedTimer.{LoadedTimer}
-use Rattle.cal_tasks.specs.rules.Unguarded.{UnguardedView, entry_of, has_exceptions}
+use Rattle.cal_tasks.specs.declared.unguarded.GuardFlaw.{GuardFlaw}
+use Rattle.cal_tasks.specs.rules.Unguarded.{UnguardedView, has_exceptions}
 use Rattle.cal_answers.specs.rules.LintUnits.{is_in_folders}
-use Rattle.cal_answers.specs.rules.Unguarded.{is_unguarded, own_elsewhere, service_stem, starts_silent_service}
+use Rattle.cal_answers.specs.rules.Unguarded.{flaw_of, own_elsewhere, service_stem, started_flaw}
 
 pub elsewhere_in_path : (search_path : List (List ℕ)) (files : List UnitText) → is_in_folders search_path files ≡ true → None ≡ own_elsewhere search_path files
 elsewhere_in_path search_path [] h = refl
@@ -43,33 +43,31 @@ stem_is unit (Some stem) h =
     let ends : true ≡ ends_with nat_eq unit (codes ".service") = ends_text true (codes ".service") unit (h.0, h.1, fits, cut) in
     rw (sym ends) (ap Some (h.2 ∙ ap (λ k. take (length unit - k) unit) h.1.0))
 
--- a timer without exceptions isn't unguarded
-pub not_unguarded : (machine : Machine) (search_path : List (List ℕ)) (is_user : Bool) (timer : LoadedTimer)
-    → false ≡ has_exceptions timer → false ≡ is_unguarded machine search_path is_user timer
-unfolding is_unguarded
-not_unguarded machine search_path is_user timer none = ap (λ has. has && starts_silent_service machine search_path is_user timer) none
+-- a timer without exceptions has no flaw
+pub no_flaw : (machine : Machine) (search_path : List (List ℕ)) (is_user : Bool) (timer : LoadedTimer)
+    → false ≡ has_exceptions timer → None ≡ flaw_of machine search_path is_user timer
+unfolding flaw_of
+no_flaw machine search_path is_user timer none = ap (λ has. if has then started_flaw machine search_path is_user timer else None) none
 
--- a timer with exceptions is unguarded if its service doesn't ask
-pub unguarded_if : (machine : Machine) (search_path : List (List ℕ)) (is_user : Bool) (timer : LoadedTimer) (is : Bool)
-    → true ≡ has_exceptions timer → is ≡ starts_silent_service machine search_path is_user timer → is ≡ is_unguarded machine search_path is_user timer
-unfolding is_unguarded
-unguarded_if machine search_path is_user timer is some e = e ∙ ap (λ has. has && starts_silent_service machine search_path is_user timer) some
+-- a timer with exceptions has the flaw of the service that it starts
+pub flaw_if : (machine : Machine) (search_path : List (List ℕ)) (is_user : Bool) (timer : LoadedTimer) (flaw : Option GuardFlaw)
+    → true ≡ has_exceptions timer → flaw ≡ started_flaw machine search_path is_user timer → flaw ≡ flaw_of machine search_path is_user timer
+unfolding flaw_of
+flaw_if machine search_path is_user timer flaw some e = e ∙ ap (λ has. if has then started_flaw machine search_path is_user timer else None) some
 
-kept_one : (passes : Bool) (test : LoadedTimer → Bool) (timer : LoadedTimer) → test timer ≡ passes
-    → map entry_of (filter test (timer ∷ [])) ≡ (if passes then entry_of timer ∷ [] else [])
-kept_one true test timer e = rw e refl
-kept_one false test timer e = rw e refl
+found_one : {X Y : Type 0} (f : X → Option Y) (x : X) (found : Option Y) → f x ≡ found → filter_map f (x ∷ []) ≡ option_to_list found
+found_one f x None e = rw e refl
+found_one f x (Some y) e = rw e refl
 
--- one step of a loop: if `before` has the entries of the timers among the first `i` that pass the test, and the entry
--- of the next timer is appended if this timer passes, then `now` has the entries of those among the first `i + 1`
-pub entries_step : (test : LoadedTimer → Bool) (timers : List LoadedTimer) (i : ℕ) (timer : LoadedTimer) (before now : List UnguardedView)
-    → i < length timers → timer ≡ get_or timers i timer → before ≡ map entry_of (filter test (take i timers))
-    → now ≡ before ++ (if test timer then entry_of timer ∷ [] else []) → now ≡ map entry_of (filter test (take (i + 1) timers))
-entries_step test timers i timer before now short is h e =
+-- one step of a loop: if `before` has what `f` returns for the first `i` timers, and what it returns for the next timer
+-- is appended, then `now` has what it returns for the first `i + 1`
+pub entries_step : (f : LoadedTimer → Option UnguardedView) (timers : List LoadedTimer) (i : ℕ) (timer : LoadedTimer) (before now : List UnguardedView)
+    → i < length timers → timer ≡ get_or timers i timer → before ≡ filter_map f (take i timers)
+    → now ≡ before ++ option_to_list (f timer) → now ≡ filter_map f (take (i + 1) timers)
+entries_step f timers i timer before now short is h e =
     let last : take (i + 1) timers ≡ take i timers ++ timer ∷ [] =
     ap (λ j. take j timers) (add-one i) ∙ take-suc timers i timer short ∙ ap (λ y. take i timers ++ y ∷ []) (sym is) in
-    let kept : map entry_of (filter test (take (i + 1) timers)) ≡ map entry_of (filter test (take i timers)) ++ (if test timer then entry_of timer ∷ [] else []) =
-    ap (λ all. map entry_of (filter test all)) last ∙ ap (map entry_of) (filter-append test (take i timers) (timer ∷ []))
-    ∙ map-append entry_of (filter test (take i timers)) (filter test (timer ∷ []))
-    ∙ ap (λ more. map entry_of (filter test (take i timers)) ++ more) (kept_one (test timer) test timer refl) in
-    e ∙ ap (λ before. before ++ (if test timer then entry_of timer ∷ [] else [])) h ∙ sym kept
+    let found : filter_map f (take (i + 1) timers) ≡ filter_map f (take i timers) ++ option_to_list (f timer) =
+    ap (filter_map f) last ∙ filter_map-append f (take i timers) (timer ∷ [])
+    ∙ ap (λ more. filter_map f (take i timers) ++ more) (found_one f timer (f timer) refl) in
+    e ∙ ap (λ before. before ++ option_to_list (f timer)) h ∙ sym found

@@ -12,6 +12,7 @@ mod crontab_timers;
 mod due;
 mod fault;
 mod found;
+pub mod guard_laws;
 mod index;
 mod lint;
 mod loading;

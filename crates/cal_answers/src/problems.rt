@@ -1,9 +1,10 @@
 //! The problems that `lint` prints.
 
-ghost use Rattle.std.specs.Prelude.{◌≡◌, ◌++◌, ◌∷◌, [], IfOk, OnOk, count_by, map, string_bytes};
+ghost use Rattle.std.specs.Prelude.{◌≡◌, ◌++◌, ◌∷◌, [], IfOk, OnOk, count_by, map, option_map, string_bytes};
 ghost use Rattle.std.specs.List.{flat_map, list_any};
 ghost use Rattle.std.specs.Str.{bytes_eq};
 ghost use Rattle.cal_crontabs.specs.rules.Findings.{finding_message, finding_seen};
+ghost use Rattle.cal_tasks.specs.rules.Unguarded.{unguarded_seen};
 ghost use Rattle.cal_timers_report.specs.rules.Documents.{lint_document};
 ghost use Rattle.cal_timers_report.specs.rules.ReportView.{problem_seen};
 ghost use Rattle.cal_answers.specs.rules.LintCandidates.{candidate_row, has_in_line, has_in_line_of, has_text, is_left_out, shown_candidate, with_candidate, with_candidates};
@@ -16,10 +17,11 @@ ghost use Rattle.cal_answers.specs.rules.LintRows.{is_error_at, is_error_kind, i
 use crate::candidates::{Candidate, Unless};
 use cal_crontabs::{CronFinding, CronFindingKind};
 use cal_lint::{Finding, ProblemKind};
+use cal_tasks::UnguardedTimer;
 use cal_timers_report::{ProblemRow, Style, lint_json};
 use cal_timers_text::{
-    ProblemCounts, condition_line, finding_text, message_of, placed_text, problem_text,
-    push_counts, unguarded_message, unguarded_text,
+    ProblemCounts, finding_text, message_of, placed_text, problem_text, push_counts,
+    service_suggestion, unguarded_message, unguarded_text,
 };
 use std::alloc::{AllocError, Global};
 
@@ -201,26 +203,27 @@ impl Problems {
         Ok(())
     }
 
-    /// Adds the warning that systemd ignores the exceptions of the timer whose own file has this path, with the line
-    /// that the service needs. `is_user` says whether the timer is a unit of a user.
+    /// Adds the warning that systemd ignores the exceptions of a timer, or may ignore them, with the line that the
+    /// service needs. `is_user` says whether the timer is a unit of a user.
     pub(crate) fn add_unguarded(
         &mut self,
         alloc: Global,
         style: Style,
         is_user: bool,
-        path: &str,
+        timer: &UnguardedTimer,
     ) -> Result<(), AllocError>
-        ensures { OnOk result (listed_in self.new ≡ listed_in self.old ++ unguarded_problem style is_user path.now ∷ []) }
+        ensures { OnOk result (listed_in self.new ≡ listed_in self.old ++ unguarded_problem style is_user (unguarded_seen timer.now) ∷ []) }
     {
-        let text = unguarded_text(alloc, path, is_user, style)?;
+        let path = timer.path.as_str();
+        let suggestion = service_suggestion(timer.flaw, is_user);
         self.list.push(Problem {
             file: String::from_str(alloc, path)?,
             line: None,
             column: None,
             is_error: false,
-            message: String::from_str(alloc, unguarded_message())?,
-            suggestion: Some(String::from_str(alloc, condition_line(is_user))?),
-            text,
+            message: String::from_str(alloc, unguarded_message(timer.flaw))?,
+            suggestion: owned(alloc, suggestion)?,
+            text: unguarded_text(alloc, path, timer.flaw, is_user, style)?,
         })?;
         Ok(())
     }
@@ -300,6 +303,15 @@ impl Problems {
             rows.push(row_of(problem))?;
         }
         lint_json(alloc, rows.as_slice())
+    }
+}
+
+fn owned(alloc: Global, text: Option<&str>) -> Result<Option<String>, AllocError>
+    ensures { IfOk result (λ owned. option_map string_bytes owned ≡ option_map (λ text. text.now) text.entry) }
+{
+    match text {
+        Some(text) => Ok(Some(String::from_str(alloc, text)?)),
+        None => Ok(None),
     }
 }
 

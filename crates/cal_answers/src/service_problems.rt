@@ -1,5 +1,4 @@
-//! Warnings about timers with exceptions that systemd ignores, because the service that they start doesn't run
-//! `calendar-timers due`.
+//! Warnings about timers with exceptions that systemd ignores, or may ignore, because of the service that they start.
 
 ghost use Rattle.std.specs.Prelude.{◌≡◌, ◌++◌, OnOk, map};
 ghost use Rattle.cal_tasks.specs.rules.Unguarded.{unguarded_seen};
@@ -11,8 +10,8 @@ use cal_tasks::UnguardedTimer;
 use cal_timers_report::Style;
 use std::alloc::{AllocError, Global};
 
-/// Adds a warning about each of the `unguarded` timers: systemd ignores its exceptions. `is_user` says whether the
-/// timers are units of a user.
+/// Adds a warning about each of the `unguarded` timers: systemd ignores its exceptions, or may ignore them. `is_user`
+/// says whether the timers are units of a user.
 pub(crate) fn add_unguarded(
     alloc: Global,
     style: Style,
@@ -24,7 +23,7 @@ pub(crate) fn add_unguarded(
         ≡ listed_in problems.old ++ unguarded_problems style is_user (map unguarded_seen unguarded.now)) }
 {
     for timer in unguarded {
-        problems.add_unguarded(alloc, style, is_user, timer.path.as_str())?;
+        problems.add_unguarded(alloc, style, is_user, timer)?;
     }
     Ok(())
 }

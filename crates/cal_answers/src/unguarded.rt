@@ -1,28 +1,28 @@
-//! Timers with exceptions that systemd ignores, because the service that they start doesn't run `calendar-timers due`
-//! (systemd.service(5), ExecCondition=).
+//! Timers with exceptions that systemd ignores, or may ignore, because of the service that they start
+//! (systemd.service(5), ExecCondition= and SuccessExitStatus=).
 
-ghost use Rattle.std.specs.Prelude.{◌≡◌, ◌++◌, ◌∷◌, [], ℕ, List, IfOk, OnOk, if◌then◌else◌, map, option_map, string_bytes};
+ghost use Rattle.std.specs.Prelude.{◌≡◌, ◌++◌, ◌∷◌, [], ℕ, List, IfOk, OnOk, map, option_map, string_bytes};
+ghost use Rattle.std.specs.Option.{option_to_list};
 ghost use Rattle.cal_machine.specs.rules.Machine.{Machine};
-ghost use Rattle.cal_unit_index.specs.rules.Files.{shown_unit_text};
 ghost use Rattle.cal_unit_index.specs.rules.Index.{IsIndexOf};
-ghost use Rattle.cal_load.specs.rules.Service.{asks_due_on};
+ghost use Rattle.cal_load.specs.rules.Service.{guard_on};
 ghost use Rattle.cal_tasks.specs.rules.Unguarded.{entry_of, has_exceptions, unguarded_seen};
-ghost use Rattle.cal_answers.specs.rules.Unguarded.{folder_of, folders_for, is_silent, is_unguarded, or_root, own_elsewhere, service_stem, starts_silent, starts_silent_service, unguarded_among, unguarded_on};
+ghost use Rattle.cal_answers.specs.rules.Unguarded.{flaw_by, flaw_of, folder_of, folders_for, or_root, own_elsewhere, service_flaw, service_stem, started_flaw, unguarded_among, unguarded_on, unit_flaw};
 
 use crate::found::LoadedByVerb;
 use crate::setting_problems::is_in_search_path;
-use cal_load::{LoadedTimer, asks_due, started_unit};
+use cal_load::{Guard, LoadedTimer, service_guard, started_unit};
 use cal_machine::{Tree, before_last_byte};
-use cal_tasks::{UnguardedTimer, own_path};
+use cal_tasks::{GuardFlaw, UnguardedTimer, own_path};
 use cal_unit_index::{UnitIndex, UnitText};
 use std::alloc::{AllocError, Global};
 
-/// Returns the loaded timers that have exceptions and start a service that doesn't run `calendar-timers due`, in the order
-/// in which they were loaded. Only `list`, `show` and `lint` need them; for the other verbs, the list is empty. `index` is
-/// the index of the search path, and `is_user` says whether the units are those of a user.
+/// Returns the loaded timers that have exceptions, and start a service whose guard has a flaw, in the order in which
+/// they were loaded. Only `list`, `show` and `lint` need them; for the other verbs, the list is empty. `index` is the
+/// index of the search path, and `is_user` says whether the units are those of a user.
 ///
-/// The service of a timer whose own file is in a folder of the search path is looked for in the search path. The service
-/// of any other timer is looked for only in the folder that has the timer's own file.
+/// The service of a timer whose own file is in a folder of the search path is looked for in the search path. The
+/// service of any other timer is looked for only in the folder that has the timer's own file.
 pub(crate) fn unguarded_on<T: Tree>(
     alloc: Global,
     tree: &mut T,
@@ -48,7 +48,7 @@ pub(crate) fn unguarded_on<T: Tree>(
     }
 }
 
-/// Returns those of these timers that have exceptions, and start a service that doesn't ask.
+/// Returns those of these timers that have exceptions, and start a service whose guard has a flaw.
 fn unguarded_among<T: Tree>(
     alloc: Global,
     tree: &mut T,
@@ -67,7 +67,7 @@ fn unguarded_among<T: Tree>(
     Ok(list)
 }
 
-/// Appends the timer, if it has exceptions and starts a service that doesn't ask.
+/// Appends the timer, if it has exceptions and starts a service whose guard has a flaw.
 fn push_if_unguarded<T: Tree>(
     alloc: Global,
     tree: &mut T,
@@ -79,57 +79,45 @@ fn push_if_unguarded<T: Tree>(
     ensures known { OnOk result ((machine : Machine) (search_path : List (List ℕ)) → T.shows tree.new machine
         → IsIndexOf machine search_path index.now → map unguarded_seen list.new.items
         ≡ map unguarded_seen list.old.items
-        ++ (if is_unguarded machine search_path is_user timer.now then entry_of timer.now ∷ [] else [])) }
+        ++ option_to_list (option_map (entry_of timer.now) (flaw_of machine search_path is_user timer.now))) }
     ensures grows { (machine : Machine) → T.shows tree.new machine → T.shows tree.old machine }
 {
-    if is_unguarded(alloc, tree, index, is_user, timer)? {
-        list.push(entry_of(alloc, timer)?)?;
+    if let Some(flaw) = flaw_of(alloc, tree, index, is_user, timer)? {
+        list.push(entry_of(alloc, timer, flaw)?)?;
     }
     Ok(())
 }
 
-fn entry_of(alloc: Global, timer: &LoadedTimer) -> Result<UnguardedTimer, AllocError>
-    ensures { IfOk result (λ entry. unguarded_seen entry ≡ entry_of timer.now) }
+fn entry_of(
+    alloc: Global,
+    timer: &LoadedTimer,
+    flaw: GuardFlaw,
+) -> Result<UnguardedTimer, AllocError>
+    ensures { IfOk result (λ entry. unguarded_seen entry ≡ entry_of timer.now flaw) }
 {
     Ok(UnguardedTimer {
         name: String::from_str(alloc, timer.name.as_str())?,
         path: String::from_str(alloc, own_path(timer))?,
+        flaw,
     })
 }
 
-/// Returns whether the timer has exceptions, and starts a service that doesn't ask.
-fn is_unguarded<T: Tree>(
+/// Returns the flaw in the guard of the service that the timer starts. Returns `None` if the timer has no exceptions.
+fn flaw_of<T: Tree>(
     alloc: Global,
     tree: &mut T,
     index: &UnitIndex,
     is_user: bool,
     timer: &LoadedTimer,
-) -> Result<bool, AllocError>
-    ensures known { IfOk result (λ is. (machine : Machine) (search_path : List (List ℕ)) → T.shows tree.new machine
-        → IsIndexOf machine search_path index.now → is ≡ is_unguarded machine search_path is_user timer.now) }
+) -> Result<Option<GuardFlaw>, AllocError>
+    ensures known { IfOk result (λ flaw. (machine : Machine) (search_path : List (List ℕ)) → T.shows tree.new machine
+        → IsIndexOf machine search_path index.now → flaw ≡ flaw_of machine search_path is_user timer.now) }
     ensures grows { (machine : Machine) → T.shows tree.new machine → T.shows tree.old machine }
 {
     if has_exceptions(timer) {
-        return starts_silent_service(alloc, tree, index, is_user, timer);
+        return started_flaw(alloc, tree, index, is_user, timer);
     }
-    Ok(false)
-}
-
-/// Returns whether the timer starts a service that doesn't ask.
-fn starts_silent_service<T: Tree>(
-    alloc: Global,
-    tree: &mut T,
-    index: &UnitIndex,
-    is_user: bool,
-    timer: &LoadedTimer,
-) -> Result<bool, AllocError>
-    ensures known { IfOk result (λ is. (machine : Machine) (search_path : List (List ℕ)) → T.shows tree.new machine
-        → IsIndexOf machine search_path index.now → is ≡ starts_silent_service machine search_path is_user timer.now) }
-    ensures grows { (machine : Machine) → T.shows tree.new machine → T.shows tree.old machine }
-{
-    let files = timer.files.texts.as_slice();
-    let unit = started_unit(alloc, timer.name.as_str(), files)?;
-    starts_silent(alloc, tree, index, is_user, files, unit.as_deref())
+    Ok(None)
 }
 
 fn has_exceptions(timer: &LoadedTimer) -> bool
@@ -138,63 +126,95 @@ fn has_exceptions(timer: &LoadedTimer) -> bool
     !timer.exceptions().is_empty()
 }
 
-/// Returns whether a timer with these files starts a service that doesn't ask. `unit` is the unit that it starts, or
-/// `None` if that depends on the running system.
-fn starts_silent<T: Tree>(
+/// Returns the flaw in the guard of the service that the timer starts.
+fn started_flaw<T: Tree>(
     alloc: Global,
     tree: &mut T,
     index: &UnitIndex,
     is_user: bool,
-    files: &[UnitText],
+    timer: &LoadedTimer,
+) -> Result<Option<GuardFlaw>, AllocError>
+    ensures known { IfOk result (λ flaw. (machine : Machine) (search_path : List (List ℕ)) → T.shows tree.new machine
+        → IsIndexOf machine search_path index.now → flaw ≡ started_flaw machine search_path is_user timer.now) }
+    ensures grows { (machine : Machine) → T.shows tree.new machine → T.shows tree.old machine }
+{
+    let unit = started_unit(alloc, timer.name.as_str(), timer.files.texts.as_slice())?;
+    unit_flaw(alloc, tree, index, is_user, timer, unit.as_deref())
+}
+
+/// Returns the flaw in the guard of the unit that the timer starts. `unit` is `None` if that unit depends on the
+/// running system.
+fn unit_flaw<T: Tree>(
+    alloc: Global,
+    tree: &mut T,
+    index: &UnitIndex,
+    is_user: bool,
+    timer: &LoadedTimer,
     unit: Option<&str>,
-) -> Result<bool, AllocError>
-    ensures known { IfOk result (λ is. (machine : Machine) (search_path : List (List ℕ)) → T.shows tree.new machine
-        → IsIndexOf machine search_path index.now
-        → is ≡ starts_silent machine (folders_for search_path files.now) is_user (option_map (λ unit. unit.now) unit.entry)) }
+) -> Result<Option<GuardFlaw>, AllocError>
+    ensures known { IfOk result (λ flaw. (machine : Machine) (search_path : List (List ℕ)) → T.shows tree.new machine
+        → IsIndexOf machine search_path index.now → flaw
+        ≡ unit_flaw machine (folders_for search_path timer.now.files.texts.items) is_user (string_bytes timer.now.name) (option_map (λ unit. unit.now) unit.entry)) }
     ensures grows { (machine : Machine) → T.shows tree.new machine → T.shows tree.old machine }
 {
     match unit {
-        Some(unit) => is_silent(alloc, tree, index, is_user, files, service_stem(unit)),
-        None => Ok(false),
+        Some(unit) => service_flaw(alloc, tree, index, is_user, timer, service_stem(unit)),
+        None => Ok(None),
     }
 }
 
-/// Returns whether the service with this stem doesn't ask; `false` without a service.
-fn is_silent<T: Tree>(
+/// Returns the flaw in the guard of the service with this stem, or `None` without a service.
+fn service_flaw<T: Tree>(
     alloc: Global,
     tree: &mut T,
     index: &UnitIndex,
     is_user: bool,
-    files: &[UnitText],
+    timer: &LoadedTimer,
     stem: Option<&str>,
-) -> Result<bool, AllocError>
-    ensures known { IfOk result (λ is. (machine : Machine) (search_path : List (List ℕ)) → T.shows tree.new machine
-        → IsIndexOf machine search_path index.now
-        → is ≡ is_silent machine (folders_for search_path files.now) is_user (option_map (λ stem. stem.now) stem.entry)) }
+) -> Result<Option<GuardFlaw>, AllocError>
+    ensures known { IfOk result (λ flaw. (machine : Machine) (search_path : List (List ℕ)) → T.shows tree.new machine
+        → IsIndexOf machine search_path index.now → flaw
+        ≡ service_flaw machine (folders_for search_path timer.now.files.texts.items) is_user (string_bytes timer.now.name) (option_map (λ stem. stem.now) stem.entry)) }
     ensures grows { (machine : Machine) → T.shows tree.new machine → T.shows tree.old machine }
 {
     match stem {
-        Some(stem) => Ok(!asks(alloc, tree, index, is_user, files, stem)?),
-        None => Ok(false),
+        Some(stem) => {
+            let guard = guard_of(alloc, tree, index, is_user, timer, stem)?;
+            Ok(flaw_by(guard))
+        }
+        None => Ok(None),
     }
 }
 
-/// Returns whether the service with this stem asks, if a timer with these files starts it.
-fn asks<T: Tree>(
+fn flaw_by(guard: Guard) -> Option<GuardFlaw>
+    ensures { result ≡ flaw_by guard }
+{
+    match guard {
+        Guard::Asks => None,
+        Guard::Missing => Some(GuardFlaw::Missing),
+        Guard::Unknown => Some(GuardFlaw::Unknown),
+        Guard::FailureAccepted => Some(GuardFlaw::FailureAccepted),
+    }
+}
+
+/// Returns the guard of the service with this stem, which the timer starts.
+fn guard_of<T: Tree>(
     alloc: Global,
     tree: &mut T,
     index: &UnitIndex,
     is_user: bool,
-    files: &[UnitText],
+    timer: &LoadedTimer,
     stem: &str,
-) -> Result<bool, AllocError>
-    ensures known { IfOk result (λ asks. (machine : Machine) (search_path : List (List ℕ)) → T.shows tree.new machine
-        → IsIndexOf machine search_path index.now → asks ≡ asks_due_on machine (folders_for search_path files.now) is_user stem.now) }
+) -> Result<Guard, AllocError>
+    ensures known { IfOk result (λ guard. (machine : Machine) (search_path : List (List ℕ)) → T.shows tree.new machine
+        → IsIndexOf machine search_path index.now → guard
+        ≡ guard_on machine (folders_for search_path timer.now.files.texts.items) is_user (string_bytes timer.now.name) stem.now) }
     ensures grows { (machine : Machine) → T.shows tree.new machine → T.shows tree.old machine }
 {
-    match own_elsewhere(index, files) {
-        Some(own) => asks_in_folder(alloc, tree, folder_of(own), is_user, stem),
-        None => asks_due(alloc, tree, index, stem, is_user),
+    let name = timer.name.as_str();
+    match own_elsewhere(index, timer.files.texts.as_slice()) {
+        Some(own) => guard_in_folder(alloc, tree, folder_of(own), is_user, name, stem),
+        None => service_guard(alloc, tree, index, is_user, name, stem),
     }
 }
 
@@ -212,21 +232,23 @@ fn own_elsewhere<'f>(index: &UnitIndex, files: &'f [UnitText]) -> Option<&'f str
     }
 }
 
-/// Returns whether the service with this stem asks, if the search path has only this folder.
-fn asks_in_folder<T: Tree>(
+/// Returns the guard of the service with this stem, if the search path has only this folder. `timer` is the name of the
+/// timer that starts the service.
+fn guard_in_folder<T: Tree>(
     alloc: Global,
     tree: &mut T,
     folder: &str,
     is_user: bool,
+    timer: &str,
     stem: &str,
-) -> Result<bool, AllocError>
-    ensures known { IfOk result (λ asks. (machine : Machine) → T.shows tree.new machine
-        → asks ≡ asks_due_on machine (folder.now ∷ []) is_user stem.now) }
+) -> Result<Guard, AllocError>
+    ensures known { IfOk result (λ guard. (machine : Machine) → T.shows tree.new machine
+        → guard ≡ guard_on machine (folder.now ∷ []) is_user timer.now stem.now) }
     ensures grows { (machine : Machine) → T.shows tree.new machine → T.shows tree.old machine }
 {
     let folder = String::from_str(alloc, folder)?;
     let index = UnitIndex::read(alloc, tree, std::slice::from_ref(&folder))?;
-    asks_due(alloc, tree, &index, stem, is_user)
+    service_guard(alloc, tree, &index, is_user, timer, stem)
 }
 
 /// Returns the stem of a service, or `None` if the unit isn't a service.

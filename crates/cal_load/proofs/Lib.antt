@@ -4,6 +4,7 @@ mod FileRows
 pub mod ExpressionLemmas
 pub mod FileFaultLemmas
 pub mod FileLemmas
+pub mod GuardLemmas
 pub mod IgnoredSettingLemmas
 pub mod NoteLemmas
 mod NoteRows
@@ -12,8 +13,8 @@ pub mod PositionLemmas
 pub mod ReadableLemmas
 mod ReadableRows
 pub mod ResolvedLemmas
-pub mod ServiceLemmas
-mod ServiceRows
+pub mod MentionLemmas
+mod GuardRows
 pub mod SpecifierLemmas
 mod SpecifierRows
 pub mod TextFaultLemmas

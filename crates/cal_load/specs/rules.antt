@@ -3,8 +3,10 @@ pub mod AllFiles
 pub mod AllTargets
 pub mod AllUnits
 pub mod CalendarZones
+pub mod Condition
 pub mod Expressions
 pub mod FileFaults
+pub mod Guard
 pub mod IgnoredSettings
 pub mod Loaded
 pub mod LoadedTarget

@@ -3,10 +3,13 @@
 #![tactic(auto)]
 
 mod calendar;
+mod condition;
 mod expressions;
 mod fault;
 mod files;
 mod folder;
+mod guard;
+pub mod guard_laws;
 mod ignored;
 mod loaded;
 mod names;
@@ -27,11 +30,12 @@ mod zones;
 pub use calendar::{Calendar, IgnoredLine};
 pub use expressions::load_expressions;
 pub use files::{LoadedFiles, load_files};
+pub use guard::Guard;
 pub use ignored::{IgnoredSetting, WhyIgnored, ignored_settings};
 pub use loaded::{Loaded, LoadedTimer};
 pub use paths::is_path;
 pub use readable::{BrokenLine, BrokenReason};
-pub use service::asks_due;
+pub use service::service_guard;
 pub use started::{is_missing, started_unit};
 pub use target_fault::{TargetFault, TargetReason};
 pub use timer_files::TimerFiles;

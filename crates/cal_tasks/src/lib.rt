@@ -40,5 +40,5 @@ pub use midnight::stops_at_midnight;
 pub use present::Present;
 pub use same_report::compare;
 pub use show_report::shown_timer;
-pub use unguarded::{UnguardedTimer, own_path};
+pub use unguarded::{GuardFlaw, UnguardedTimer, own_path};
 pub use when::{WhenFault, read_when};

@@ -17,5 +17,5 @@ pub use finding_lines::{ProblemCounts, finding_text, placed_text, problem_text, 
 pub use messages::{
     idle_words, ignored_setting_words, invalid_words, message_of, missing_unit_words, mistake_words,
 };
-pub use service_lines::{condition_line, unguarded_message, unguarded_text};
+pub use service_lines::{service_suggestion, unguarded_message, unguarded_text};
 pub use warnings::warnings_of;

@@ -1,14 +1,20 @@
--- The unguarded timers: timers with exceptions whose service doesn't run `calendar-timers due` as a condition, so that
--- systemd ignores the exceptions (systemd.service(5), ExecCondition=).
-use Rattle.std.specs.Prelude.{ℕ, ◌-◌, ◌==◌, nat_eq, Bool, false, not, ◌&&◌, if◌then◌else◌, List, [], ◌∷◌, Option, None, Some, codes, filter, length, map, string_bytes, take}
-use Rattle.std.specs.List.{ends_with}
+-- The unguarded timers: timers with exceptions whose service doesn't run `calendar-timers due` as a condition, or may
+-- not run it, or goes on if it fails, so that systemd ignores the exceptions (systemd.service(5), ExecCondition= and
+-- SuccessExitStatus=).
+use Rattle.std.specs.Prelude.{ℕ, ◌-◌, ◌==◌, nat_eq, Bool, if◌then◌else◌, List, [], ◌∷◌, Option, None, Some, codes, length, map, string_bytes, take}
+use Rattle.std.specs.List.{ends_with, filter_map}
+use Rattle.std.specs.Option.{option_map}
 use Rattle.cal_machine.specs.rules.Machine.{Machine}
 use Rattle.cal_machine.specs.rules.Places.{before_last_byte, slash}
 use Rattle.cal_unit_index.specs.declared.files.UnitText.{UnitText}
 use Rattle.cal_unit_index.specs.rules.Files.{shown_unit_text}
+use Rattle.cal_load.specs.declared.guard.Guard.{Guard}
+use Rattle.cal_load.specs.declared.guard.Guard.TheVariants.{Asks, Missing, Unknown, FailureAccepted}
 use Rattle.cal_load.specs.declared.loaded.LoadedTimer.{LoadedTimer}
-use Rattle.cal_load.specs.rules.Service.{asks_due_on}
+use Rattle.cal_load.specs.rules.Service.{guard_on}
 use Rattle.cal_load.specs.rules.StartedUnit.{started_unit_of}
+use Rattle.cal_tasks.specs.declared.unguarded.GuardFlaw.{GuardFlaw}
+use Rattle.cal_tasks.specs.declared.unguarded.GuardFlaw.TheVariants as flaws
 use Rattle.cal_tasks.specs.rules.Unguarded.{UnguardedView, entry_of, has_exceptions}
 use Rattle.cal_answers.specs.declared.found.LoadedByVerb.{LoadedByVerb}
 use Rattle.cal_answers.specs.declared.found.LoadedByVerb.TheVariants as loads
@@ -49,30 +55,42 @@ abbrev pub service_stem : List ℕ → Option (List ℕ)
 service_stem unit =
     if ends_with nat_eq unit (codes ".service") then Some (take (length unit - length (codes ".service")) unit) else None
 
--- whether the unit is a service that, by its files in these folders, doesn't run `calendar-timers due` as a condition
-abbrev pub is_silent : Machine → List (List ℕ) → Bool → Option (List ℕ) → Bool
-is_silent machine folders is_user None = false
-is_silent machine folders is_user (Some stem) = not (asks_due_on machine folders is_user stem)
+-- what is wrong with a guard, if something is
+abbrev pub flaw_by : Guard → Option GuardFlaw
+flaw_by Asks = None
+flaw_by Missing = Some flaws.Missing
+flaw_by Unknown = Some flaws.Unknown
+flaw_by FailureAccepted = Some flaws.FailureAccepted
 
--- whether the unit that a timer starts is such a service (`is_silent`); the unit is None if it depends on the running
--- system
-abbrev pub starts_silent : Machine → List (List ℕ) → Bool → Option (List ℕ) → Bool
-starts_silent machine folders is_user None = false
-starts_silent machine folders is_user (Some unit) = is_silent machine folders is_user (service_stem unit)
+-- the flaw in the guard of the service with this stem, by its files in these folders, if the timer with this name
+-- starts it
+abbrev pub service_flaw : Machine → List (List ℕ) → Bool → List ℕ → Option (List ℕ) → Option GuardFlaw
+service_flaw machine folders is_user timer None = None
+service_flaw machine folders is_user timer (Some stem) = flaw_by (guard_on machine folders is_user timer stem)
 
--- whether the timer starts a service that doesn't ask
-abbrev pub starts_silent_service : Machine → List (List ℕ) → Bool → LoadedTimer → Bool
-starts_silent_service machine search_path is_user timer =
-    starts_silent machine (folders_for search_path timer.files.texts.items) is_user
+-- the flaw in the guard of the unit that a timer starts, if it is a service; the unit is None if it depends on the
+-- running system
+abbrev pub unit_flaw : Machine → List (List ℕ) → Bool → List ℕ → Option (List ℕ) → Option GuardFlaw
+unit_flaw machine folders is_user timer None = None
+unit_flaw machine folders is_user timer (Some unit) = service_flaw machine folders is_user timer (service_stem unit)
+
+-- the flaw in the guard of the service that the timer starts
+abbrev pub started_flaw : Machine → List (List ℕ) → Bool → LoadedTimer → Option GuardFlaw
+started_flaw machine search_path is_user timer =
+    unit_flaw machine (folders_for search_path timer.files.texts.items) is_user (string_bytes timer.name)
     (started_unit_of (string_bytes timer.name) (map shown_unit_text timer.files.texts.items))
 
--- whether the timer is unguarded: it has exceptions, and its service doesn't run `calendar-timers due` as a condition
-unfoldable pub is_unguarded : Machine → List (List ℕ) → Bool → LoadedTimer → Bool
-is_unguarded machine search_path is_user timer = has_exceptions timer && starts_silent_service machine search_path is_user timer
+-- the flaw in the guard of a timer's exceptions, if it has exceptions
+unfoldable pub flaw_of : Machine → List (List ℕ) → Bool → LoadedTimer → Option GuardFlaw
+flaw_of machine search_path is_user timer = if has_exceptions timer then started_flaw machine search_path is_user timer else None
+
+-- the entry of a timer, if the guard of its exceptions has a flaw
+abbrev pub unguarded_entry : Machine → List (List ℕ) → Bool → LoadedTimer → Option UnguardedView
+unguarded_entry machine search_path is_user timer = option_map (entry_of timer) (flaw_of machine search_path is_user timer)
 
 -- the unguarded timers among these
 abbrev pub unguarded_among : Machine → List (List ℕ) → Bool → List LoadedTimer → List UnguardedView
-unguarded_among machine search_path is_user timers = map entry_of (filter (is_unguarded machine search_path is_user) timers)
+unguarded_among machine search_path is_user timers = filter_map (unguarded_entry machine search_path is_user) timers
 
 -- the unguarded timers among those that were loaded for `list`, `show` or `lint`; none for the other verbs
 abbrev pub unguarded_on : Machine → List (List ℕ) → Bool → LoadedByVerb → List UnguardedView

@@ -5,7 +5,7 @@ use denote.Shadow.{shadow}
 use denote.Text.{Utf8}
 use Rattle.cal_bytes.specs.rules.Separators.{words}
 use Rattle.cal_unit_index.specs.rules.Destinations.{is_among}
-use Rattle.cal_load.proofs.service.has_word.Given as goal
+use Rattle.cal_load.proofs.guard.has_word.Given as goal
 
 abbrev pub invariant-loop-first : goal.invariant-loop-first
 invariant-loop-first l = record {
