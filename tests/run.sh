@@ -27,8 +27,8 @@ shift 2
 here=$(CDPATH='' cd -- "$(dirname -- "$0")" && pwd) || exit 2
 [ $# -gt 0 ] || set -- "$here"/transcripts/*.txt
 
-# These variables change which units are found. A transcript sets those that it needs.
-unset SYSTEMD_UNIT_PATH XDG_CONFIG_HOME XDG_CONFIG_DIRS XDG_DATA_HOME XDG_DATA_DIRS XDG_RUNTIME_DIR TRIGGER_UNIT
+# These variables change which units are found, and when they run. A transcript sets those that it needs.
+unset SYSTEMD_UNIT_PATH XDG_CONFIG_HOME XDG_CONFIG_DIRS XDG_DATA_HOME XDG_DATA_DIRS XDG_RUNTIME_DIR TRIGGER_UNIT TRIGGER_TIMER_REALTIME_USEC
 work=$(mktemp -d) || exit 2
 trap 'rm -rf "$work"' EXIT
 trap 'exit 1' HUP INT TERM

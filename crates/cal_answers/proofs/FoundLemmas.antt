@@ -1,5 +1,6 @@
 -- Lemmas on what is found when a question is read.
 use Rattle.std.proofs.Common.{◌≡◌, ◌∙◌, ◌==◌, ℕ, ◌+◌, ◌<◌, All, Bool, Bor, true, false, List, [], ◌∷◌, ◌++◌, Option, None, Some, Result, Ok, Err, IsErrAnd, ap, filter, get_or, inl, inr, length, map, refl, string_bytes, subst, sym, take, true≢false}
+use Rattle.std.specs.Prelude.{ℤ, option_map}
 use Rattle.std.proofs.lemmas.Bool.{eqb-true}
 use Rattle.std.proofs.lemmas.List.{map-append, nil_from_length, take_more}
 use Rattle.std.proofs.lemmas.List.Elements.{All-nil, filter-append}
@@ -25,12 +26,14 @@ use Rattle.cal_answers.specs.declared.fault.ReadFault.TheVariants as faults
 use Rattle.cal_answers.specs.declared.found.Known.{Known}
 use Rattle.cal_answers.specs.declared.found.LoadedByVerb.{LoadedByVerb}
 use Rattle.cal_answers.specs.declared.found.LoadedByVerb.TheVariants as loads
+use Rattle.cal_answers.specs.rules.BootTime.{boot_time_for}
 use Rattle.cal_answers.specs.rules.Found.{AreAll, AreAllOn, AreFilesOn, AreLoadedOn, FollowsFromRead, HasAllFor, HasAllLinted, HasDue, HasUnits, IsIndexFor, IsKnownOn, IsLoadedFor, IsPathOf, asks_all, needs_units}
 use Rattle.cal_answers.specs.rules.LintTargets.{AreFilesOf, AreNamedFiles, HasNoneIfCrontabs, other_targets}
-use Rattle.cal_answers.specs.rules.LocalClock.{IsLocalZone, clock_zone, local_zone_of, shown_zone_of}
+use Rattle.cal_answers.specs.rules.LocalClock.{IsLocalZone, IsShownZone, clock_zone, local_zone_of}
 use Rattle.cal_answers.specs.rules.MachinePath.{machine_path}
+use Rattle.cal_answers.specs.rules.Present.{IsPresent}
 use Rattle.cal_answers.specs.rules.RangeZones.{AreRangeZones}
-use Rattle.cal_answers.specs.rules.Trigger.{due_on}
+use Rattle.cal_answers.specs.rules.Trigger.{due_on, stated_second}
 use Rattle.cal_tasks.specs.rules.Unguarded.{unguarded_seen}
 use Rattle.cal_answers.specs.rules.Unguarded.{unguarded_on}
 
@@ -175,19 +178,25 @@ loaded_at Knows machine search_path all_units about (loads.Cron crontabs named) 
 
 -- what is known for a question is true on a machine (`IsKnownOn`) if each part of it is; `search_path` is that of the
 -- machine, or has no folders
-known_with : (machine : Machine) (command : Command) (known : Known) (search_path : List (List ℕ)) (needed : Bool)
+known_with : (machine : Machine) (command : Command) (clock : Option ℤ) (known : Known) (search_path : List (List ℕ)) (needed : Bool)
+    → IsPresent (stated_second machine command clock) (Some known.now)
+    → option_map string_bytes known.about ≡ due_on machine command.question
+    → known.boot ≡ boot_time_for machine command.options.now (due_on machine command.question)
     → needs_units command.question (due_on machine command.question) ≡ needed
     → IsLocalZone machine (local_zone_of machine command) (clock_zone known.local)
-    → IsLocalZone machine (shown_zone_of machine command) (clock_zone known.shown)
+    → IsShownZone machine command (clock_zone known.shown)
     → AreRangeZones machine command.question known.range
     → IsPathOf machine command.options.is_user needed search_path → IsIndexOf machine search_path known.index → IsLoadedFor command.question known.loaded
     → ((folders : List (List ℕ)) → IsIndexOf machine folders known.index → AreLoadedOn machine folders (due_on machine command.question) known.loaded)
     → ((folders : List (List ℕ)) → IsIndexOf machine folders known.index → AreAllOn machine folders (asks_all command.question) (due_on machine command.question) known.loaded)
     → ((folders : List (List ℕ)) → IsIndexOf machine folders known.index → map unguarded_seen known.unguarded.items ≡ unguarded_on machine folders command.options.is_user known.loaded)
-    → IsKnownOn machine command known
-known_with machine command known search_path needed about zone shown range searched is same loads whole unguarded = record {
+    → IsKnownOn machine command clock known
+known_with machine command clock known search_path needed present timer boot about zone shown range searched is same loads whole unguarded = record {
+  present = present;
   local = zone;
   shown = shown;
+  about = timer;
+  boot = boot;
   range = range;
   search_path = search_path;
   searched = subst (λ needed. IsPathOf machine command.options.is_user needed search_path) (sym about) searched;
@@ -200,23 +209,26 @@ known_with machine command known search_path needed about zone shown range searc
 
 -- what is known for a question is true on a machine (`IsKnownOn`) if each part of it is; `needed` says whether the
 -- question can be about units
-pub known_on : (machine : Machine) (command : Command) (known : Known) (search_path : List (List ℕ)) (needed : Bool)
+pub known_on : (machine : Machine) (command : Command) (clock : Option ℤ) (known : Known) (search_path : List (List ℕ)) (needed : Bool)
+    → IsPresent (stated_second machine command clock) (Some known.now)
+    → option_map string_bytes known.about ≡ due_on machine command.question
+    → known.boot ≡ boot_time_for machine command.options.now (due_on machine command.question)
     → needs_units command.question (due_on machine command.question) ≡ needed
     → IsLocalZone machine (local_zone_of machine command) (clock_zone known.local)
-    → IsLocalZone machine (shown_zone_of machine command) (clock_zone known.shown)
+    → IsShownZone machine command (clock_zone known.shown)
     → AreRangeZones machine command.question known.range
     → machine_path machine command.options.is_user ≡ Some search_path → IsIndexFor machine search_path known.index
     → (needed ≡ true → IsIndexOf machine search_path known.index) → IsLoadedFor command.question known.loaded
     → ((folders : List (List ℕ)) → IsIndexOf machine folders known.index → AreLoadedOn machine folders (due_on machine command.question) known.loaded)
     → ((folders : List (List ℕ)) → IsIndexOf machine folders known.index → AreAllOn machine folders (asks_all command.question) (due_on machine command.question) known.loaded)
     → ((folders : List (List ℕ)) → IsIndexOf machine folders known.index → map unguarded_seen known.unguarded.items ≡ unguarded_on machine folders command.options.is_user known.loaded)
-    → IsKnownOn machine command known
-known_on machine command known search_path true about zone shown range searched index indexed same loads whole unguarded =
-    known_with machine command known search_path true about zone shown range searched (indexed refl) same loads whole unguarded
-known_on machine command known search_path false about zone shown range searched (inl is) indexed same loads whole unguarded =
-    known_with machine command known search_path false about zone shown range (inl searched) is same loads whole unguarded
-known_on machine command known search_path false about zone shown range searched (inr is) indexed same loads whole unguarded =
-    known_with machine command known [] false about zone shown range (inr refl) is same loads whole unguarded
+    → IsKnownOn machine command clock known
+known_on machine command clock known search_path true present timer boot about zone shown range searched index indexed same loads whole unguarded =
+    known_with machine command clock known search_path true present timer boot about zone shown range searched (indexed refl) same loads whole unguarded
+known_on machine command clock known search_path false present timer boot about zone shown range searched (inl is) indexed same loads whole unguarded =
+    known_with machine command clock known search_path false present timer boot about zone shown range (inl searched) is same loads whole unguarded
+known_on machine command clock known search_path false present timer boot about zone shown range searched (inr is) indexed same loads whole unguarded =
+    known_with machine command clock known [] false present timer boot about zone shown range (inr refl) is same loads whole unguarded
 
 -- an error that can only be a failed allocation is one
 pub only_memory : {A : Type 0} (result : Result A ReadFault) → IsErrAnd result (λ fault. fault ≡ faults.NoMemory) → result ≡ Err faults.NoMemory

@@ -20,8 +20,7 @@ use Rattle.cal_zone.specs.rules.ZoneTable.{ZoneMap, zone_named}
 use Rattle.cal_load.specs.rules.TextFaults.{IsZonesError}
 use Rattle.cal_load.proofs.TextFaultLemmas.{first_named}
 use Rattle.cal_answers.specs.declared.local_clock.LocalClock.{LocalClock}
-use Rattle.cal_answers.specs.rules.LocalClock.{IsLocalZone, IsZoneNamed, clock_zone}
-use Rattle.cal_answers.specs.rules.Unanswerable.{IsUnusable}
+use Rattle.cal_answers.specs.rules.LocalClock.{IsLocalZone, IsUnusable, IsZoneNamed, clock_zone}
 
 pub utc_zone : zone_of utc ≡ UTC
 unfolding zone_of

@@ -1,5 +1,7 @@
 -- What the manuals and this project's own rules say. The laws and the contracts of this crate cite these definitions.
+pub mod BootTime
 pub mod CrontabTimers
+pub mod DueFaults
 pub mod ErrorText
 pub mod Found
 pub mod LintCandidates
@@ -22,5 +24,6 @@ pub mod RangeZones
 pub mod Remarks
 pub mod Trigger
 pub mod Run
+pub mod Seconds
 pub mod Unguarded
 pub mod Unanswerable

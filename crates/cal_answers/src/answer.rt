@@ -16,13 +16,13 @@ use crate::compare::same;
 use crate::cron::cron;
 use crate::due::due;
 use crate::found::{Found, Known, LoadedByVerb};
-use crate::index::with_unreadable;
+use crate::index::with_reported;
 use crate::lint::lint;
 use crate::range_zones::RangeZones;
 use crate::remarks::{with_empty_folders, with_verb_hint, with_zone_note};
 use crate::timers::{list, show};
 use cal_load::{BrokenLine, IgnoredLine, Loaded, LoadedTimer, TargetFault, UnusableZone};
-use cal_tasks::{Present, UnguardedTimer};
+use cal_tasks::{BootTime, Present, UnguardedTimer};
 use cal_timers_command::Options;
 use cal_timers_report::Style;
 use cal_timers_text::{broken_text, fault_text, ignored_text, unusable_zone_text};
@@ -58,6 +58,8 @@ pub(crate) struct Context<'a> {
     /// The present, with the zone in which times are shown as `local`. FROM and TO are read in this zone, unless they
     /// name another one.
     pub shown: Present<'a>,
+    /// The boot time that counts for the run that `due` checks.
+    pub boot: BootTime,
     /// The zones that FROM and TO can name.
     pub range: &'a RangeZones,
     /// The timers whose exceptions systemd ignores.
@@ -121,6 +123,7 @@ fn context_of<'a>(
     Context {
         at: Present { now, local },
         shown: Present { now, local: shown },
+        boot: known.boot,
         range: &known.range,
         unguarded: known.unguarded.as_slice(),
         is_user: options.is_user,
@@ -136,7 +139,7 @@ fn answer_in(alloc: Global, known: &Known<'_>, context: Context<'_>) -> Result<A
     ensures answer { IfOk result (λ answer. IsAnswerIn known.entry.now context.entry (printed_of answer)) }
 {
     let answer = answer_loaded(alloc, context, &known.index, &known.loaded)?;
-    let answer = with_unreadable(alloc, known.index.unreadable(), answer)?;
+    let answer = with_reported(alloc, known, answer)?;
     match known.loaded {
         // Any error line makes the service fail, so `due` doesn't add these remarks.
         LoadedByVerb::Due { .. } => Ok(answer),

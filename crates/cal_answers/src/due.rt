@@ -1,4 +1,4 @@
-//! The verb `due`: whether the run of a service that starts now is due.
+//! The verb `due`: whether the run of a service is due.
 
 ghost use Rattle.std.specs.Prelude.{◌≡◌, ◌≤◌, IfOk, None, Some, option_map, string_bytes};
 ghost use Rattle.cal_timers_report.specs.rules.ReportView.{due_seen};
@@ -9,12 +9,12 @@ use crate::answer::{
     Answer, Context, INVALID, fault_lines, push_masked, stopped, with_error_lines,
 };
 use crate::compare::{if_folder, not_a_timer};
-use cal_load::{Loaded, LoadedTimer};
+use cal_load::{Loaded, LoadedTimer, run_timing};
 use cal_tasks::{DueRun, due_run};
 use cal_timers_report::{DueReport, DueVerdict, due_json, due_text};
 use std::alloc::{AllocError, Global};
 
-/// Checks whether the run that starts now is due according to the loaded timer. It is due if no timer started it.
+/// Checks whether the run is due according to the loaded timer. It is due if it is about no timer.
 /// `named` is the target, if there is one.
 pub(crate) fn due(
     alloc: Global,
@@ -85,7 +85,8 @@ fn due_by_timer(
     ensures status { IfOk result (λ answer. answer.status ≤ 2) }
     ensures answer { IfOk result (λ answer. IsFirstDue context.entry loaded.now (Some timer.now) (printed_of answer)) }
 {
-    let run = due_run(alloc, context.at, timer)?;
+    let timing = run_timing(alloc, timer)?;
+    let run = due_run(alloc, context.at, timer, timing, context.boot)?;
     let report = report_of(timer, run);
     let out = due_output(alloc, context, &report)?;
     let Answer { out, err, status } = with_error_lines(alloc, loaded, out)?;
@@ -99,9 +100,9 @@ fn report_of<'t>(timer: &'t LoadedTimer, run: DueRun) -> DueReport<'t>
     DueReport {
         unit: Some(timer.name.as_str()),
         verdict: match run {
-            DueRun::Due(instant) => DueVerdict::Due(instant),
-            DueRun::Excepted(instant) => DueVerdict::Excepted(instant),
-            DueRun::NotElapsed => DueVerdict::NotElapsed,
+            DueRun::Due(last) => DueVerdict::Due(last),
+            DueRun::CatchesUp(last) => DueVerdict::CatchesUp(last),
+            DueRun::Excepted(last) => DueVerdict::Excepted(last),
         },
     }
 }
@@ -111,8 +112,8 @@ fn status_of(run: DueRun) -> u8
     ensures { result ≡ status_of run }
 {
     match run {
-        DueRun::Due(_) => 0,
-        DueRun::Excepted(_) | DueRun::NotElapsed => INVALID,
+        DueRun::Due(_) | DueRun::CatchesUp(_) => 0,
+        DueRun::Excepted(_) => INVALID,
     }
 }
 

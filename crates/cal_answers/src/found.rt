@@ -5,7 +5,7 @@ use crate::local_clock::LocalClock;
 use crate::range_zones::RangeZones;
 use cal_crontabs::Crontabs;
 use cal_load::{Loaded, LoadedFiles};
-use cal_tasks::UnguardedTimer;
+use cal_tasks::{BootTime, UnguardedTimer};
 use cal_unit_index::UnitIndex;
 use cal_zone::Instant;
 
@@ -21,12 +21,17 @@ pub enum Found<'q> {
 /// All that the answer to a question depends on, apart from the options and the style of the output.
 #[derive(Drop)]
 pub struct Known<'q> {
-    /// The present: that of the command, or else that of the clock.
+    /// The present: that of the command, or else the time at which the timer triggered the run that `due` checks, or else
+    /// that of the clock.
     pub now: Instant,
     /// The local zone: the zone of expressions that name no zone.
     pub local: LocalClock,
     /// The zone in which times are shown.
     pub shown: LocalClock,
+    /// The timer that `due` is about, or `None` if it is about no timer. `None` for the other verbs.
+    pub about: Option<String>,
+    /// The boot time that counts for the run that `due` checks.
+    pub boot: BootTime,
     /// The zones that the start and the end of a range can name.
     pub range: RangeZones,
     /// The index of the units' search path, or an empty index if no unit is needed.

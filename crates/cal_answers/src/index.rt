@@ -9,8 +9,11 @@ ghost use Rattle.cal_answers.specs.rules.LintTimers.{path_words};
 ghost use Rattle.cal_answers.specs.rules.ErrorText.{fault_lines, unreadable_lines};
 ghost use Rattle.cal_answers.specs.rules.Printed.{printed_of, with_errors};
 ghost use Rattle.cal_answers.specs.rules.Found.{IsIndexFor, has_name, name_units, needs_units};
+ghost use Rattle.cal_answers.specs.rules.Remarks.{reported};
 
 use crate::answer::{Answer, fault_lines, with_errors};
+use crate::due_faults::due_faults;
+use crate::found::{Known, LoadedByVerb};
 use cal_load::{TargetFault, TargetReason, is_path};
 use cal_machine::Tree;
 use cal_timers_command::Question;
@@ -72,8 +75,41 @@ fn has_name(named: &[String]) -> bool
     named.iter().any(|text| !is_path(text.as_str()))
 }
 
-/// Adds an error line to an answer for each folder, file or link of the search path that can't be read. Unless such a
-/// path is also a target, no other error line of the answer is about it.
+/// Adds the error lines about unreadable parts of the search path to an answer: for `due`, a line for each that concerns
+/// its timer, and for other verbs a line for each folder, file or link. Unless such a path is also a target, no other
+/// error line of the answer is about it.
+pub(crate) fn with_reported(
+    alloc: Global,
+    known: &Known<'_>,
+    answer: Answer,
+) -> Result<Answer, AllocError>
+    ensures status { IfOk result (λ changed. changed.status ≤ max answer.status 1) }
+    ensures changed { IfOk result (λ changed. printed_of changed
+        ≡ with_errors (unreadable_lines (reported known.entry.now known.entry.now.loaded)) (printed_of answer)) }
+{
+    let faults = reported_faults(alloc, known)?;
+    let lines = fault_lines(alloc, faults.as_slice())?;
+    with_errors(answer, lines.as_str())
+}
+
+/// Returns the errors about the unreadable parts of the search path that are reported.
+fn reported_faults(alloc: Global, known: &Known<'_>) -> Result<Vec<TargetFault>, AllocError>
+    ensures { IfOk result (λ faults. fault_lines faults.items
+        ≡ unreadable_lines (reported known.entry.now known.entry.now.loaded)) }
+{
+    match &known.loaded {
+        LoadedByVerb::Due { timer, .. } => due_faults(alloc, &known.index, &known.about, timer),
+        LoadedByVerb::List { .. }
+        | LoadedByVerb::Show { .. }
+        | LoadedByVerb::Lint { .. }
+        | LoadedByVerb::Between { .. }
+        | LoadedByVerb::Same { .. }
+        | LoadedByVerb::Next { .. }
+        | LoadedByVerb::Cron { .. } => target_faults(alloc, known.index.unreadable()),
+    }
+}
+
+/// Adds an error line to an answer for each path that can't be read.
 pub(crate) fn with_unreadable(
     alloc: Global,
     unreadable: &[UnitFault],
@@ -103,7 +139,7 @@ pub(crate) fn target_faults(
 }
 
 #[tactic(auto, unfolding(cal_timers_text::specs::rules::ErrorLines::unread_words, cal_timers_text::specs::rules::ErrorLines::fault_line))]
-fn target_fault(fault: &UnitFault) -> Result<TargetFault, AllocError>
+pub(crate) fn target_fault(fault: &UnitFault) -> Result<TargetFault, AllocError>
     ensures line { IfOk result (λ target. fault_line target ≡ subject_line (string_bytes fault.now.path) (reason_words fault.now.reason)) }
     ensures words { IfOk result (λ target. unread_words target ≡ path_words (shown_fault fault.now)) }
 {

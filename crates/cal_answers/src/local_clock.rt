@@ -5,8 +5,7 @@ ghost use Rattle.cal_machine.specs.rules.Machine.{Machine};
 ghost use Rattle.cal_zone_files.specs.rules.LocalZone.{machine_local_zone};
 ghost use Rattle.cal_zone.specs.rules.Zone.{zone_of};
 ghost use Rattle.cal_zone.specs.rules.ZoneArgument.{by_rule, of_name};
-ghost use Rattle.cal_answers.specs.rules.LocalClock.{IsLocalZone, clock_zone};
-ghost use Rattle.cal_answers.specs.rules.Unanswerable.{IsUnusable};
+ghost use Rattle.cal_answers.specs.rules.LocalClock.{IsLocalZone, IsUnusable, clock_zone};
 
 use cal_machine::Tree;
 use cal_zone::{Rules, Zone, ZoneArgument, ZoneFault, ZoneTable};
@@ -94,8 +93,8 @@ fn named<T: Tree>(alloc: Global, tree: &mut T, name: String) -> Result<LocalCloc
     Ok(LocalClock::Named(name, table))
 }
 
-/// Loads the machine's own zone.
-fn of_machine<T: Tree>(alloc: Global, tree: &mut T) -> Result<LocalClock, ZonesFault>
+/// Loads the machine's own zone. Fails only with [`ZonesFault::NoMemory`].
+pub(crate) fn of_machine<T: Tree>(alloc: Global, tree: &mut T) -> Result<LocalClock, ZonesFault>
     ensures zone { IfOk result (λ clock. (machine : Machine) → T.shows tree.new machine
         → IsLocalZone machine (Ok None) (clock_zone clock)) }
     ensures fault { IfErr result (λ fault. fault ≡ ZonesFault.NoMemory) }

@@ -1,21 +1,22 @@
 //! Reading all that the answer to a question depends on.
 
 ghost use Rattle.std.specs.Prelude.{◌≡◌, ◌≢◌, IfErr, IfOk, Some, option_map};
-ghost use Rattle.std.specs.Option.{option_or};
 ghost use Rattle.cal_machine.specs.rules.Machine.{Machine};
 ghost use Rattle.cal_answers.specs.rules.Found.{IsFoundBy, IsKnownOn};
-ghost use Rattle.cal_answers.specs.rules.LocalClock.{IsLocalZone, clock_zone, is_next, local_zone_of, shown_option, shown_zone_of, shows_times};
+ghost use Rattle.cal_answers.specs.rules.LocalClock.{IsLocalZone, IsShownZone, IsUnusable, clock_zone, ignores_bad_variable, is_due, is_next, local_zone_of, shown_option, shown_zone_of, shows_times};
 ghost use Rattle.cal_answers.specs.rules.Present.{IsPresent};
-ghost use Rattle.cal_answers.specs.rules.Unanswerable.{HasNoRoot, IsUnanswerableOn, IsUnusable};
+ghost use Rattle.cal_answers.specs.rules.Trigger.{stated_second};
+ghost use Rattle.cal_answers.specs.rules.Unanswerable.{HasNoPresent, HasNoRoot, HasNoShownZone, IsUnanswerableOn};
 
+use crate::boot_time::boot_time;
 use crate::fault::ReadFault;
 use crate::found::{Found, Known};
 use crate::index::index_for;
 use crate::loading::load_by_verb;
-use crate::local_clock::LocalClock;
+use crate::local_clock::{LocalClock, of_machine};
 use crate::range_zones::RangeZones;
 use crate::search_path::search_path;
-use crate::trigger::due_on;
+use crate::trigger::{due_on, stated_second};
 use crate::unguarded::unguarded_on;
 use cal_machine::{Entry, Recorder, System, Tree, TreeFault};
 use cal_timers_command::{Command, Options, Question};
@@ -51,21 +52,19 @@ fn read_known<'q, T: Tree>(
     command: &'q Command,
     clock: Option<i64>,
 ) -> Result<Known<'q>, ReadFault>
-    ensures present { IfOk result (λ known. IsPresent (option_or command.entry.now.options.now clock) (Some known.now)) }
-    ensures known { IfOk result (λ known. (machine : Machine) → T.shows tree.new machine → IsKnownOn machine command.entry.now known) }
+    ensures known { IfOk result (λ known. (machine : Machine) → T.shows tree.new machine → IsKnownOn machine command.entry.now clock known) }
     ensures fault { IfErr result (λ fault. fault ≢ ReadFault.NoMemory → (machine : Machine) → T.shows tree.new machine
         → IsUnanswerableOn machine command.entry.now clock) }
     ensures grows { (machine : Machine) → T.shows tree.new machine → T.shows tree.old machine }
 {
-    let Some(now) = present(command.options.now, clock) else {
-        return Err(ReadFault::reason(alloc, "the clock shows a time before 1970 or after 2199"));
-    };
+    let now = find_present(alloc, tree, command, clock)?;
     check_root(alloc, tree, command.options.root.as_str())?;
     let local = find_local(alloc, tree, command)?;
     let shown = find_shown(alloc, tree, command)?;
     let search_path = search_path(alloc, tree, command.options.is_user)?;
     let timer = due_on(alloc, tree, &command.question)?;
     let about = timer.as_deref();
+    let boot = boot_time(alloc, tree, command.options.now, about)?;
     let range = RangeZones::load(alloc, tree, &command.question)?;
     let index = index_for(
         alloc,
@@ -80,6 +79,8 @@ fn read_known<'q, T: Tree>(
         now,
         local,
         shown,
+        about: timer,
+        boot,
         range,
         index,
         loaded,
@@ -87,12 +88,34 @@ fn read_known<'q, T: Tree>(
     })
 }
 
-/// Returns the present: `given`, or else the time of `clock`. Returns `None` if there is neither, or if the time is not
-/// an [`Instant`].
-fn present(given: Option<i64>, clock: Option<i64>) -> Option<Instant>
-    ensures { IsPresent (option_or given clock) result }
+/// Finds the present of a command, as [`Known::now`] describes it.
+fn find_present<T: Tree>(
+    alloc: Global,
+    tree: &mut T,
+    command: &Command,
+    clock: Option<i64>,
+) -> Result<Instant, ReadFault>
+    ensures present { IfOk result (λ now. (machine : Machine) → T.shows tree.new machine
+        → IsPresent (stated_second machine command.entry.now clock) (Some now)) }
+    ensures fault { IfErr result (λ fault. fault ≢ ReadFault.NoMemory → (machine : Machine) → T.shows tree.new machine
+        → HasNoPresent machine command.entry.now clock) }
+    ensures grows { (machine : Machine) → T.shows tree.new machine → T.shows tree.old machine }
 {
-    Instant::new(given.or(clock)?)
+    let second = stated_second(alloc, tree, command, clock)?;
+    match present(second) {
+        Some(now) => Ok(now),
+        None => {
+            let reason = "the clock shows a time before 1970 or after 2199";
+            Err(ReadFault::reason(alloc, reason))
+        }
+    }
+}
+
+/// Returns this second of Unix time as the present. Returns `None` if no second is stated, or if it isn't an [`Instant`].
+fn present(second: Option<i64>) -> Option<Instant>
+    ensures { IsPresent second result }
+{
+    Instant::new(second?)
 }
 
 /// Checks that `root`, the value of `--root`, leads to a folder. Checks nothing if `root` is empty.
@@ -148,9 +171,56 @@ fn is_next(question: &Question) -> bool
     matches!(question, Question::Next { .. })
 }
 
-/// Finds the zone in which the answer shows times. The caller has already found the zone of `--zone`, so if an option
-/// names no zone, it is `--in`.
+/// Finds the zone in which the answer shows times. If `TZ` names no zone that can be used, and may be ignored, this is
+/// the machine's own zone.
 fn find_shown<T: Tree>(
+    alloc: Global,
+    tree: &mut T,
+    command: &Command,
+) -> Result<LocalClock, ReadFault>
+    ensures zone { IfOk result (λ clock. (machine : Machine) → T.shows tree.new machine
+        → IsShownZone machine command.entry.now (clock_zone clock)) }
+    ensures fault { IfErr result (λ fault. fault ≢ ReadFault.NoMemory → (machine : Machine) → T.shows tree.new machine
+        → HasNoShownZone machine command.entry.now) }
+    ensures grows { (machine : Machine) → T.shows tree.new machine → T.shows tree.old machine }
+{
+    match find_shown_zone(alloc, tree, command) {
+        Err(ReadFault::Unanswerable(_)) if ignores_bad_variable(command) => {
+            find_own_zone(alloc, tree)
+        }
+        found => found,
+    }
+}
+
+/// Returns whether a `TZ` that can't be used is ignored.
+fn ignores_bad_variable(command: &Command) -> bool
+    ensures { result ≡ ignores_bad_variable command.entry.now }
+{
+    is_due(&command.question) && shown_option(&command.options).is_none()
+}
+
+fn is_due(question: &Question) -> bool
+    ensures { result ≡ is_due question.entry.now }
+{
+    matches!(question, Question::Due { .. })
+}
+
+/// Finds the machine's own zone.
+fn find_own_zone<T: Tree>(alloc: Global, tree: &mut T) -> Result<LocalClock, ReadFault>
+    ensures zone { IfOk result (λ clock. (machine : Machine) → T.shows tree.new machine
+        → IsLocalZone machine (Ok None) (clock_zone clock)) }
+    ensures fault { IfErr result (λ fault. fault ≡ ReadFault.NoMemory) }
+    ensures grows { (machine : Machine) → T.shows tree.new machine → T.shows tree.old machine }
+{
+    match of_machine(alloc, tree) {
+        Ok(own) => Ok(own),
+        Err(_) => Err(ReadFault::NoMemory),
+    }
+}
+
+/// Finds the zone that the options, `TZ` or the machine state for the times of the answer. The caller has already found
+/// the zone of `--zone`, so if an option names no zone, it is `--in`.
+fn find_shown_zone<T: Tree>(
     alloc: Global,
     tree: &mut T,
     command: &Command,

@@ -163,7 +163,7 @@ fn unit_flaw<T: Tree>(
     }
 }
 
-/// Returns the flaw in the guard of the service with this stem, or `None` without a service.
+/// Returns the flaw in the guard of the service with this stem. Returns `None` if there is no service, or no flaw.
 fn service_flaw<T: Tree>(
     alloc: Global,
     tree: &mut T,

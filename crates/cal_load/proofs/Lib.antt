@@ -20,6 +20,8 @@ mod SpecifierRows
 pub mod TextFaultLemmas
 pub mod TextLemmas
 pub mod TimerLemmas
+pub mod TimingLemmas
+mod TimingRows
 pub mod UnitLemmas
 pub mod UnusableZoneLemmas
 pub mod ZonedTimerLemmas

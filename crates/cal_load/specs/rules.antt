@@ -18,4 +18,5 @@ pub mod Service
 pub mod Specifiers
 pub mod StartedUnit
 pub mod TextFaults
+pub mod Timing
 pub mod UnusableZones

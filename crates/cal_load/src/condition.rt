@@ -100,7 +100,7 @@ fn mentions_our_program(command: &str) -> bool
     command.contains(PROGRAM)
 }
 
-/// Returns the words of a text.
+/// Splits a text at its blanks.
 fn words_of(alloc: Global, text: &str) -> Result<Vec<&str>, AllocError>
     ensures { IfOk result (λ found. map (λ word. word.now) found.items ≡ words text.now) }
 {
@@ -295,7 +295,7 @@ fn are_allowed(arguments: &[&str]) -> bool
     true
 }
 
-/// Returns whether the argument isn't an option, or is one that doesn't change the answer of `due` about a timer.
+/// Returns whether the argument isn't an option, or is `--user`, `--json` or `--in=ZONE`.
 fn is_allowed(argument: &str) -> bool
     ensures { result ≡ is_allowed argument.now }
 {

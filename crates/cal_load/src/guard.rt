@@ -54,7 +54,8 @@ pub(crate) fn guard_in(
     Ok(unasked_guard(may))
 }
 
-/// Returns the guard of a service that has a guard among its conditions, and these values of `SuccessExitStatus=`.
+/// Returns the guard of a service with these values of `SuccessExitStatus=`, if one of its conditions runs
+/// `calendar-timers due` about the timer.
 fn asked_guard(statuses: &[&str]) -> Guard
     ensures { result ≡ (if list_any has_failure (map (λ value. value.now) statuses.now) then FailureAccepted else Asks) }
 {

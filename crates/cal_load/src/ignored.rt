@@ -84,7 +84,10 @@ pub(crate) fn kept_in(
 }
 
 /// Returns the assignments in the sections `Timer` of these files, as far as systemd reads each file.
-fn assignments_of(alloc: Global, files: &[UnitText]) -> Result<Vec<OwnedAssignment>, AllocError>
+pub(crate) fn assignments_of(
+    alloc: Global,
+    files: &[UnitText],
+) -> Result<Vec<OwnedAssignment>, AllocError>
     ensures { IfOk result (λ found. map shown_owned_assignment found.items ≡ assignments_of_files (map shown_unit_text files.now)) }
 {
     match read_files(alloc, files) {

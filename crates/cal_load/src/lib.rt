@@ -24,6 +24,7 @@ mod target_fault;
 mod texts;
 mod timer_files;
 mod timers;
+mod timing;
 mod unit;
 mod zones;
 
@@ -40,4 +41,5 @@ pub use started::{is_missing, started_unit};
 pub use target_fault::{TargetFault, TargetReason};
 pub use timer_files::TimerFiles;
 pub use timers::load_timers;
+pub use timing::{RunTiming, run_timing};
 pub use zones::UnusableZone;

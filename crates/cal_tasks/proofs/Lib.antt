@@ -3,6 +3,7 @@ pub mod BetweenLemmas
 pub mod CrontabLemmas
 pub mod DifferenceLemmas
 pub mod DueLemmas
+mod DueRows
 pub mod IdleLemmas
 pub mod InOrderLemmas
 pub mod KeptLemmas

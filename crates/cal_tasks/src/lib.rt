@@ -33,7 +33,7 @@ mod when;
 mod zone_change;
 
 pub use between_report::between_rows;
-pub use due::{DueRun, due_run};
+pub use due::{BootTime, DueRun, due_run};
 pub use idle::{IdleKind, IdleLine, idle_lines};
 pub use list_report::list_rows;
 pub use midnight::stops_at_midnight;

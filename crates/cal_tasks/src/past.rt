@@ -79,7 +79,7 @@ fn last_since_1970(
 }
 
 /// Returns what [`last_elapse`] returns, or `None` if this instant isn't after `base`.
-fn last_after(
+pub(crate) fn last_after(
     alloc: Global,
     at: Present<'_>,
     timer: &LoadedTimer,

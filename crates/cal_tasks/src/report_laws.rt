@@ -1,20 +1,22 @@
 //! Laws of the reports. Each law is a function with an empty body, whose contract states the law.
 
-ghost use Rattle.std.specs.Prelude.{◌≡◌, ◌↔◌, ◌+◌, ◌++◌, ◌-ℤ◌, ℕ, ℤ, List, None, Some, filter, map, pos, take, true, IsPermutation, IsSortedBy, IsSortedByKey};
+ghost use Rattle.std.specs.Prelude.{◌≡◌, ◌↔◌, ◌+◌, ◌++◌, ◌-ℤ◌, ◌≤ℤ◌, ℕ, ℤ, List, [], None, Some, filter, map, pos, take, true, IsPermutation, IsSortedBy, IsSortedByKey};
 ghost use Rattle.std.specs.List.{last_or};
 ghost use Rattle.std.specs.Ordering.{int_cmp};
 ghost use Rattle.cal_load.specs.declared.loaded.Loaded.{Loaded};
 ghost use Rattle.cal_load.specs.declared.loaded.LoadedTimer.{LoadedTimer};
-ghost use Rattle.cal_timers_report.specs.rules.ReportView.{ElapseView, TimerView, UnitView};
+ghost use Rattle.cal_load.specs.declared.timing.RunTiming.{RunTiming};
+ghost use Rattle.cal_load.specs.rules.CalendarZones.{exceptions_in};
+ghost use Rattle.cal_timers_report.specs.rules.ReportView.{ElapseView, TimerView, UnitView, is_due};
 ghost use Rattle.cal_rising.specs.rules.Elements.{Has};
 ghost use Rattle.cal_zone.specs.declared.instant.Instant.{Instant};
 ghost use Rattle.cal_tasks.specs.declared.present.Present.{Present};
+ghost use Rattle.cal_tasks.specs.declared.due.BootTime.{BootTime};
 ghost use Rattle.cal_tasks.specs.declared.due.DueRun.{DueRun};
-ghost use Rattle.cal_tasks.specs.declared.due.DueRun.TheVariants.{Due, Excepted};
 ghost use Rattle.cal_tasks.specs.rules.BetweenLaw.{IsElapseRow, elapses_then, row_at, rows_at};
 ghost use Rattle.cal_tasks.specs.rules.BetweenReport.{AreBetween};
-ghost use Rattle.cal_tasks.specs.rules.DueRun.{IsDueRun, run_seen};
-ghost use Rattle.cal_tasks.specs.rules.LastElapse.{IsLastElapse, timed_exceptions};
+ghost use Rattle.cal_tasks.specs.rules.DueRun.{IsDueRun, IsExcepted, IsOnlyWithin, IsWithin, MayCatchUp, run_seen};
+ghost use Rattle.cal_tasks.specs.rules.LastElapse.{IsLastElapse, IsPastElapse};
 ghost use Rattle.cal_tasks.specs.rules.ListLaw.{is_sooner, timer_row};
 ghost use Rattle.cal_tasks.specs.rules.ListReport.{IsListOf, failed_rows, masked_rows};
 ghost use Rattle.cal_tasks.specs.rules.LoadedElapses.{elapses_in};
@@ -66,23 +68,34 @@ pub fn same_finds_every_difference()
         ↔ (elapses_in at at.now.secs one ≡ elapses_in at at.now.secs other) }
 {}
 
-/// There is only one answer to the question whether the run that a timer starts now is due: two answers have the same
-/// verdict and the same instant.
+/// There is only one answer to the question whether a run is due: two answers have the same report.
 pub fn a_run_is_due_or_not()
-    ensures { (at : Present) (timer : LoadedTimer) (one other : DueRun) → IsDueRun at timer one → IsDueRun at timer other
-        → run_seen one ≡ run_seen other }
+    ensures { (at : Present) (timer : LoadedTimer) (timing : RunTiming) (boot : BootTime) (one other : DueRun) → IsDueRun at timer timing boot one
+        → IsDueRun at timer timing boot other → run_seen one ≡ run_seen other }
 {}
 
-/// If a run is due, its instant is an elapse of the timer (as `list` computes elapses), namely the last one up to the
-/// present (as `show` shows it). If an exception suppresses the run, its instant is not an elapse of the timer. If the
-/// timer elapses at the present, the run is due.
-pub fn due_runs_are_those_of_elapses()
-    ensures due { (at : Present) (timer : LoadedTimer) (instant : Instant) → IsDueRun at timer (Due instant)
-        → Has (elapses_in at (instant.secs -ℤ pos 1) timer) instant.secs }
-    ensures last { (at : Present) (timer : LoadedTimer) (instant : Instant) → IsDueRun at timer (Due instant)
-        → IsLastElapse at timer (timed_exceptions at timer) instant.secs }
-    ensures excepted { (at : Present) (timer : LoadedTimer) (instant : Instant) → IsDueRun at timer (Excepted instant)
-        → Has (elapses_in at (instant.secs -ℤ pos 1) timer) instant.secs → ⊥ }
-    ensures now { (at : Present) (timer : LoadedTimer) (run : DueRun) → Has (elapses_in at (at.now.secs -ℤ pos 1) timer) at.now.secs
-        → IsDueRun at timer run → run_seen run ≡ (true, Some at.now.secs) }
+/// An elapse of the timer is one that `list` computes, so it isn't an exception. A run is due if the timer has an elapse
+/// in the last `reach` seconds up to the run, or if the last elapse of its expressions is an elapse of the timer.
+pub fn wanted_runs_are_due()
+    ensures within { (at : Present) (timer : LoadedTimer) (timing : RunTiming) (boot : BootTime) (run : DueRun) (elapse : Instant) → elapse.secs ≤ℤ at.now.secs
+        → IsWithin at timing.reach elapse.secs → Has (elapses_in at (elapse.secs -ℤ pos 1) timer) elapse.secs → IsDueRun at timer timing boot run
+        → is_due (run_seen run) ≡ true }
+    ensures last { (at : Present) (timer : LoadedTimer) (timing : RunTiming) (boot : BootTime) (run : DueRun) (secs : ℤ) → IsLastElapse at timer [] secs
+        → Has (elapses_in at (secs -ℤ pos 1) timer) secs → IsDueRun at timer timing boot run → is_due (run_seen run) ≡ true }
+{}
+
+/// Each run of a timer without exceptions is due. So is each run that only another trigger can have started: that of a
+/// timer with other triggers whose expressions have no elapse in the last `reach` seconds.
+pub fn runs_without_an_exception_are_due()
+    ensures without { (at : Present) (timer : LoadedTimer) (timing : RunTiming) (boot : BootTime) (run : DueRun) → exceptions_in timer.calendar ≡ []
+        → IsDueRun at timer timing boot run → is_due (run_seen run) ≡ true }
+    ensures others { (at : Present) (timer : LoadedTimer) (timing : RunTiming) (boot : BootTime) (run : DueRun) → timing.has_other_triggers ≡ true
+        → ((secs : ℤ) → IsPastElapse at timer [] secs → IsWithin at timing.reach secs → ⊥) → IsDueRun at timer timing boot run → is_due (run_seen run) ≡ true }
+{}
+
+/// If the expressions have exactly one elapse in the last `reach` seconds, and the run doesn't make up for an earlier
+/// one, the run is due if and only if no exception elapses at this elapse.
+pub fn a_run_for_one_elapse_is_due_unless_excepted()
+    ensures { (at : Present) (timer : LoadedTimer) (timing : RunTiming) (boot : BootTime) (run : DueRun) (only : ℤ) → IsOnlyWithin at timer timing.reach only
+        → (MayCatchUp at timing boot only → ⊥) → IsDueRun at timer timing boot run → (is_due (run_seen run) ≡ true) ↔ (IsExcepted at timer only → ⊥) }
 {}

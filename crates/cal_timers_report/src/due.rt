@@ -1,8 +1,8 @@
-//! The report of `due`: whether the run of a service that starts now is due.
+//! The report of `due`: whether the run of a service is due.
 
 ghost use Rattle.std.specs.Prelude.{◌≡◌, ◌++◌, IfOk, OnOk, option_map, string_bytes};
-ghost use Rattle.cal_timers_report.specs.rules.DueText.{due_line, reason_text, unit_prefix};
-ghost use Rattle.cal_timers_report.specs.rules.ReportView.{due_seen, elapse_of, is_due};
+ghost use Rattle.cal_timers_report.specs.rules.DueText.{due_line, line_of, reason_text, unit_prefix};
+ghost use Rattle.cal_timers_report.specs.rules.ReportView.{due_seen, elapse_of, is_due, verdict_seen};
 
 use crate::cells::push_printable;
 use crate::times::push_instant;
@@ -12,57 +12,84 @@ use std::alloc::{AllocError, Global};
 /// The report of `due`: the timer that it is about, if there is one, and whether the run is due.
 #[derive(Clone, Copy)]
 pub struct DueReport<'a> {
-    /// The name of the timer. `None` if no timer started the service.
+    /// The name of the timer. `None` if none is named, and `$TRIGGER_UNIT` names none.
     pub unit: Option<&'a str>,
     pub verdict: DueVerdict,
 }
 
-/// Whether the run that starts now is due.
+/// Whether the run is due.
 #[derive(Clone, Copy)]
 pub enum DueVerdict {
-    /// The run is due: no timer started the service.
+    /// The run is due: it is about no timer, so the service was started by hand or by another unit.
     ByHand,
-    /// The run is due: this is the last elapse of the timer.
-    Due(Instant),
+    /// The run is due. The instant is the last elapse of the timer's expressions, if there is one.
+    Due(Option<Instant>),
+    /// The run is due: an exception elapses at this instant, the last elapse of the timer's expressions, but the run may
+    /// make up for an earlier elapse.
+    CatchesUp(Instant),
     /// The run isn't due: an exception elapses at this instant, the last elapse of the timer's expressions.
     Excepted(Instant),
-    /// The run isn't due: the timer hasn't elapsed yet.
-    NotElapsed,
 }
 
 impl DueVerdict {
-    /// Returns whether the run is due. A run that no timer started is always due.
+    /// Returns whether the run is due. A run that is about no timer is always due.
     pub(crate) fn is_due(self) -> bool
-        ensures { result ≡ is_due self }
+        ensures { result ≡ is_due (verdict_seen self) }
     {
         match self {
-            DueVerdict::ByHand | DueVerdict::Due(_) => true,
-            DueVerdict::Excepted(_) | DueVerdict::NotElapsed => false,
+            DueVerdict::ByHand | DueVerdict::Due(_) | DueVerdict::CatchesUp(_) => true,
+            DueVerdict::Excepted(_) => false,
         }
     }
 
     /// Returns the last elapse of the timer's expressions, if there is one.
     pub(crate) fn elapse(self) -> Option<Instant>
-        ensures { option_map (λ instant. instant.secs) result ≡ elapse_of self }
+        ensures { option_map (λ instant. instant.secs) result ≡ elapse_of (verdict_seen self) }
     {
         match self {
-            DueVerdict::Due(instant) | DueVerdict::Excepted(instant) => Some(instant),
-            DueVerdict::ByHand | DueVerdict::NotElapsed => None,
+            DueVerdict::ByHand => None,
+            DueVerdict::Due(last) => last,
+            DueVerdict::CatchesUp(last) | DueVerdict::Excepted(last) => Some(last),
         }
     }
 }
 
-/// Returns a line that says why the run isn't due, or an empty text if it's due.
+/// Returns a line that says why the run isn't due, or that it may make up for an earlier elapse. Returns an empty text
+/// for any other run.
 pub fn due_text(alloc: Global, zone: Zone<'_>, report: &DueReport<'_>) -> Result<String, AllocError>
     ensures { IfOk result (λ text. string_bytes text ≡ due_line zone.entry (due_seen report.now)) }
 {
-    let mut out = String::new(alloc);
-    if report.verdict.is_due() {
-        return Ok(out);
+    match report.verdict {
+        DueVerdict::ByHand | DueVerdict::Due(_) => Ok(String::new(alloc)),
+        DueVerdict::CatchesUp(last) => line_of(
+            alloc,
+            zone,
+            report.unit,
+            "due: ",
+            last,
+            ", but this may be the run of an earlier elapse",
+        ),
+        DueVerdict::Excepted(last) => line_of(alloc, zone, report.unit, "not due: ", last, ""),
     }
-    push_unit(&mut out, report.unit)?;
-    out.push_str("not due: ")?;
-    push_reason(&mut out, zone, report.verdict.elapse())?;
+}
+
+/// Returns a line about a run whose last elapse is an exception. The instant is printed as clocks in the zone show it.
+fn line_of(
+    alloc: Global,
+    zone: Zone<'_>,
+    unit: Option<&str>,
+    verdict: &str,
+    last: Instant,
+    remark: &str,
+) -> Result<String, AllocError>
+    ensures { IfOk result (λ text. string_bytes text
+        ≡ line_of zone.entry (option_map (λ name. name.now) unit.entry) verdict.now last.secs remark.now) }
+{
+    let mut out = String::new(alloc);
+    push_unit(&mut out, unit)?;
+    out.push_str(verdict)?;
+    push_reason(&mut out, zone, last)?;
+    out.push_str(remark)?;
     out.push('\n')?;
     Ok(out)
 }
@@ -79,16 +106,11 @@ fn push_unit(out: &mut String, unit: Option<&str>) -> Result<(), AllocError>
     out.push_str(": ")
 }
 
-/// Appends why the run isn't due: an exception elapses at `elapse`, or the timer hasn't elapsed yet. The instant is
-/// printed as clocks in the zone show it.
-fn push_reason(out: &mut String, zone: Zone<'_>, elapse: Option<Instant>) -> Result<(), AllocError>
-    ensures { OnOk result (string_bytes out.new
-        ≡ string_bytes out.old ++ reason_text zone.entry (option_map (λ instant. instant.secs) elapse)) }
+fn push_reason(out: &mut String, zone: Zone<'_>, last: Instant) -> Result<(), AllocError>
+    ensures { OnOk result (string_bytes out.new ≡ string_bytes out.old ++ reason_text zone.entry last.secs) }
 {
-    let Some(instant) = elapse else {
-        return out.push_str("no elapse so far");
-    };
     let mut formatter = InstantFormatter::new(zone);
-    push_instant(out, &mut formatter, instant)?;
-    out.push_str(" is an exception")
+    push_instant(out, &mut formatter, last)?;
+    out.push_str(" is an exception")?;
+    Ok(())
 }

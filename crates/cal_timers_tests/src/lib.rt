@@ -7,4 +7,6 @@ mod answers;
 #[cfg(test)]
 mod crontab;
 #[cfg(test)]
+mod due;
+#[cfg(test)]
 mod lint;

@@ -2,7 +2,7 @@
 -- `calendar-timers` calls it once per run.
 use Rattle.std.specs.Prelude.{◌≡◌, ◌⊎◌, ◌==◌, ◌&&◌, ◌||◌, ⊤, ℕ, ℤ, Bool, true, false, not, All, List, [], ◌∷◌, Option, None, Some, length, map, option_map, is_some, slice_get, string_bytes}
 use Rattle.std.specs.List.{list_any}
-use Rattle.std.specs.Option.{option_map_or, option_or}
+use Rattle.std.specs.Option.{option_map_or}
 use Rattle.cal_machine.specs.rules.Machine.{Machine}
 use Rattle.cal_machine.specs.rules.Seen.{AllGiven, Matches, Said, Seen}
 use Rattle.cal_timers_command.specs.declared.question.Command.{Command}
@@ -27,13 +27,14 @@ use Rattle.cal_answers.specs.declared.found.Found as founds
 use Rattle.cal_answers.specs.declared.found.Known.{Known}
 use Rattle.cal_answers.specs.declared.found.LoadedByVerb.{LoadedByVerb}
 use Rattle.cal_answers.specs.declared.found.LoadedByVerb.TheVariants as loads
+use Rattle.cal_answers.specs.rules.BootTime.{boot_time_for}
 use Rattle.cal_answers.specs.rules.CrontabTimers.{AreCrontabTimersOn}
 use Rattle.cal_answers.specs.rules.LintTargets.{AreNamedCrontabs, AreNamedFiles, HasNoneIfCrontabs}
-use Rattle.cal_answers.specs.rules.LocalClock.{IsLocalZone, clock_zone, local_zone_of, shown_zone_of}
+use Rattle.cal_answers.specs.rules.LocalClock.{IsLocalZone, IsShownZone, clock_zone, local_zone_of}
 use Rattle.cal_answers.specs.rules.MachinePath.{machine_path}
 use Rattle.cal_answers.specs.rules.Present.{IsPresent}
 use Rattle.cal_answers.specs.rules.RangeZones.{AreRangeZones}
-use Rattle.cal_answers.specs.rules.Trigger.{due_on}
+use Rattle.cal_answers.specs.rules.Trigger.{due_on, stated_second}
 use Rattle.cal_answers.specs.rules.Unguarded.{unguarded_on}
 use Rattle.cal_tasks.specs.rules.Unguarded.{unguarded_seen}
 use Rattle.cal_answers.specs.rules.Unanswerable.{IsUnanswerableOn}
@@ -198,12 +199,16 @@ abbrev pub IsPathOf : Machine → Bool → Bool → List (List ℕ) → Type 0
 IsPathOf machine is_user true search_path = machine_path machine is_user ≡ Some search_path
 IsPathOf machine is_user false search_path = (machine_path machine is_user ≡ Some search_path) ⊎ (search_path ≡ [])
 
--- What is known for the question of a command is true on this machine: the local zone, the zone in which times are
--- shown, the zones that a range names, the index of the search path, and the timers, files and crontabs that were
--- loaded. No timer is missing (`AreAllOn`), and `unguarded` has the timers whose exceptions systemd ignores.
-pub record IsKnownOn (machine : Machine) (command : Command) (known : Known) : Type 0 where
+-- What is known for the question of a command is true on this machine, whose clock shows `clock`: the present, the local
+-- zone, the zone in which times are shown, the zones that a range names, the index of the search path, the timer that
+-- `due` is about, the boot time that counts for its run, and the timers, files and crontabs that were loaded. No timer is missing (`AreAllOn`), and `unguarded`
+-- has the timers whose exceptions systemd ignores.
+pub record IsKnownOn (machine : Machine) (command : Command) (clock : Option ℤ) (known : Known) : Type 0 where
+  pub present : IsPresent (stated_second machine command clock) (Some known.now)
   pub local : IsLocalZone machine (local_zone_of machine command) (clock_zone known.local)
-  pub shown : IsLocalZone machine (shown_zone_of machine command) (clock_zone known.shown)
+  pub shown : IsShownZone machine command (clock_zone known.shown)
+  pub about : option_map string_bytes known.about ≡ due_on machine command.question
+  pub boot : known.boot ≡ boot_time_for machine command.options.now (due_on machine command.question)
   pub range : AreRangeZones machine command.question known.range
   pub search_path : List (List ℕ)
   pub searched : IsPathOf machine command.options.is_user (needs_units command.question (due_on machine command.question)) search_path
@@ -221,14 +226,9 @@ pub record FollowsFromRead (gives : Said → Bool) (IsSo : Machine → Type 0) :
   pub is_so : (machine : Machine) → Matches read machine → IsSo machine
   pub possible : (machine : Machine) × Matches read machine
 
--- What is known for a question follows from what was read, and the present is the one that the command states or, if
--- it states none, the time of the clock.
-abbrev pub IsKnownBy : (Said → Bool) → Command → Option ℤ → Known → Type 0
-IsKnownBy gives command clock known =
-    IsPresent (option_or command.options.now clock) (Some known.now) × FollowsFromRead gives (λ machine. IsKnownOn machine command known)
-
 -- What was found follows from what was read. It is either all that is known, or that the question can't be answered.
 abbrev pub IsFoundBy : (Said → Bool) → Command → Option ℤ → founds.Found → Type 0
 IsFoundBy gives command clock (founds.TheVariants.Unanswerable reason) =
     FollowsFromRead gives (λ machine. IsUnanswerableOn machine command clock)
-IsFoundBy gives command clock (founds.TheVariants.Answerable known) = IsKnownBy gives command clock known
+IsFoundBy gives command clock (founds.TheVariants.Answerable known) =
+    FollowsFromRead gives (λ machine. IsKnownOn machine command clock known)

@@ -1,18 +1,20 @@
 -- The local zone of a question and the zone in which its answer shows times, as zones of `jiff`. Without `--zone`, the
 -- expressions of units are in the machine's zone, and those of `next` in the zone of `TZ`, as in
 -- `systemd-analyze calendar`. `cal_zone_files` defines which zones these are.
-use Rattle.std.specs.Prelude.{◌≡◌, ℕ, Bool, true, false, List, Option, None, Some, Ok, Err, option_map, string_bytes}
+use Rattle.std.specs.Prelude.{◌≡◌, ◌⊎◌, ◌&&◌, ⊤, ℕ, Bool, true, false, List, Option, None, Some, Ok, Err, is_none, option_map, string_bytes}
 use Rattle.std.specs.Option.{option_or, unwrap_or}
 use Rattle.jiff.specs.Placed.{IsPosixZone}
 use Rattle.jiff.specs.Types.{TimeZone, UTC}
+use Rattle.jiff.specs.Words.{read_whole}
 use Rattle.cal_civil.specs.rules.ZoneName.{is_utc_name}
 use Rattle.cal_machine.specs.rules.Machine.{Machine}
 use Rattle.cal_timers_command.specs.declared.question.Command.{Command}
 use Rattle.cal_timers_command.specs.declared.question.Options.{Options}
 use Rattle.cal_timers_command.specs.declared.question.Question.{Question}
 use Rattle.cal_timers_command.specs.declared.question.Question.TheVariants as questions
+use Rattle.cal_zone_files.specs.declared.fault.FileReason.{FileReason}
 use Rattle.cal_zone_files.specs.rules.LocalZone.{LocalZone, machine_local_zone}
-use Rattle.cal_zone_files.specs.rules.ZoneFiles.{IsMachineZone, IsZoneOn}
+use Rattle.cal_zone_files.specs.rules.ZoneFiles.{IsMachineZone, IsReasonOn, IsZoneOn}
 use Rattle.cal_zone.specs.rules.FixedOffsetZone.{fixed_offset_zone}
 use Rattle.cal_zone.specs.rules.Zone.{zone_of}
 use Rattle.cal_zone.specs.rules.ZoneArgument.{ZoneArgument, in_utc, at_offset, by_rule, of_name}
@@ -51,6 +53,20 @@ clock_zone (Ruled rules) = Some rules
 clock_zone (Named name table) = zone_named table (string_bytes name)
 clock_zone Assumed = Some UTC
 
+-- a zone that is given can't be used if its rule isn't valid, or if the file for its name can't be used
+abbrev pub IsUnusableGiven : Machine → ZoneArgument → Type 0
+IsUnusableGiven machine in_utc = ⊥
+IsUnusableGiven machine (at_offset seconds) = ⊥
+IsUnusableGiven machine (by_rule rule) = read_whole rule ≡ None
+IsUnusableGiven machine (of_name name) = (reason : FileReason) × IsReasonOn machine name reason
+
+-- The local zone can't be used if an option or `TZ` gives a zone that can't be used, or is unclear or can't be read.
+-- The machine's own zone can be used even if /etc/localtime doesn't lead to a zone file: it is UTC then.
+abbrev pub IsUnusable : Machine → LocalZone → Type 0
+IsUnusable machine (Ok (Some given)) = IsUnusableGiven machine given
+IsUnusable machine (Ok None) = ⊥
+IsUnusable machine (Err fault) = ⊤
+
 -- ## Questions
 
 abbrev pub is_next : Question → Bool
@@ -88,3 +104,25 @@ shown_option options = option_or (option_map string_bytes options.shown_in) (opt
 -- `lint` and `cron` show no times, so `TZ` is ignored for them
 abbrev pub shown_zone_of : Machine → Command → LocalZone
 shown_zone_of machine command = machine_local_zone machine (shown_option command.options) (shows_times command.question)
+
+abbrev pub is_due : Question → Bool
+is_due (questions.List given all crons) = false
+is_due (questions.Show given most) = false
+is_due (questions.Lint given all strict) = false
+is_due (questions.Between start end given all crons) = false
+is_due (questions.Same a b) = false
+is_due (questions.Next given most) = false
+is_due (questions.Due given) = true
+is_due (questions.Cron given) = false
+
+-- Whether a `TZ` that can't be used is ignored. `due` ignores it, since systemd evaluates the timer in the machine's own
+-- zone, and a zone in which times are only shown must not make a service fail.
+abbrev pub ignores_bad_variable : Command → Bool
+ignores_bad_variable command = is_due command.question && is_none (shown_option command.options)
+
+-- whether `zone`, a zone of `jiff`, is the one in which times are shown, or the machine's own zone instead of a `TZ` that
+-- is ignored because it can't be used
+abbrev pub IsShownZone : Machine → Command → Option TimeZone → Type 0
+IsShownZone machine command zone =
+    IsLocalZone machine (shown_zone_of machine command) zone
+    ⊎ ((ignores_bad_variable command ≡ true) × IsUnusable machine (shown_zone_of machine command) × IsLocalZone machine (Ok None) zone)

@@ -19,6 +19,7 @@ use Rattle.cal_load.specs.declared.loaded.Loaded.{Loaded}
 use Rattle.cal_load.specs.declared.loaded.LoadedTimer.{LoadedTimer}
 use Rattle.cal_load.specs.rules.AllTargets.{is_path}
 use Rattle.cal_load.specs.rules.CalendarZones.{expressions_in}
+use Rattle.cal_load.specs.rules.Timing.{timing_of}
 use Rattle.cal_stamp.specs.declared.fault.StampFault.{StampFault}
 use Rattle.cal_stamp.specs.rules.StampFault.{message_of}
 use Rattle.cal_tasks.specs.declared.due.DueRun.{DueRun}
@@ -26,7 +27,7 @@ use Rattle.cal_tasks.specs.declared.due.DueRun.TheVariants as runs
 use Rattle.cal_tasks.specs.declared.when.WhenFault.{WhenFault}
 use Rattle.cal_tasks.specs.declared.when.WhenFault.TheVariants.{NoInstant, NoMemory}
 use Rattle.cal_tasks.specs.rules.BetweenReport.{AreBetween}
-use Rattle.cal_tasks.specs.rules.DueRun.{IsDueRun}
+use Rattle.cal_tasks.specs.rules.DueRun.{IsDueRun, run_seen}
 use Rattle.cal_tasks.specs.rules.ListReport.{IsListOf}
 use Rattle.cal_tasks.specs.rules.LoadedElapses.{setting_for}
 use Rattle.cal_tasks.specs.rules.SameReport.{comparison_of}
@@ -42,7 +43,7 @@ use Rattle.cal_timers_report.specs.rules.BetweenText.{between_lines}
 use Rattle.cal_timers_report.specs.rules.Documents.{between_document, due_document, list_document, same_document, show_document}
 use Rattle.cal_timers_report.specs.rules.DueText.{due_line}
 use Rattle.cal_timers_report.specs.rules.ListTable.{list_table}
-use Rattle.cal_timers_report.specs.rules.ReportView.{ComparisonView, DueView, ElapseView, TimerView, UnitView, elapse_seen, unit_seen}
+use Rattle.cal_timers_report.specs.rules.ReportView.{ComparisonView, DueView, ElapseView, TimerView, UnitView, VerdictView, elapse_seen, unit_seen}
 use Rattle.cal_timers_report.specs.rules.SameText.{same_lines}
 use Rattle.cal_timers_report.specs.rules.ShowText.{show_lines}
 use Rattle.cal_timers_text.specs.rules.Warnings.{warnings_in}
@@ -235,25 +236,23 @@ abbrev pub due_output : Context → DueView → List ℕ
 due_output context report =
     if context.is_json then due_document context.shown.local report else due_line context.shown.local report
 
--- the report of a run that no timer started
+-- the report of a run that is about no timer
 abbrev pub by_hand : DueView
-by_hand = record { unit = None; is_due = true; elapse = None }
+by_hand = record { unit = None; verdict = VerdictView.ByHand }
 
 -- the report of a run that the timer of this name started
 abbrev pub due_view : List ℕ → DueRun → DueView
-due_view name (runs.Due instant) = record { unit = Some name; is_due = true; elapse = Some instant.secs }
-due_view name (runs.Excepted instant) = record { unit = Some name; is_due = false; elapse = Some instant.secs }
-due_view name runs.NotElapsed = record { unit = Some name; is_due = false; elapse = None }
+due_view name run = record { unit = Some name; verdict = run_seen run }
 
 -- 0 if the run is due, and 1 if it isn't
 abbrev pub status_of : DueRun → ℕ
-status_of (runs.Due instant) = 0
-status_of (runs.Excepted instant) = 1
-status_of runs.NotElapsed = 1
+status_of (runs.Due last) = 0
+status_of (runs.CatchesUp last) = 0
+status_of (runs.Excepted last) = 1
 
 abbrev pub IsTimerDue : Context → Loaded → LoadedTimer → DueRun → Printed → Type 0
 IsTimerDue context loaded timer run printed =
-    IsDueRun context.at timer run × (printed.out ≡ due_output context (due_view (string_bytes timer.name) run))
+    IsDueRun context.at timer (timing_of timer) context.boot run × (printed.out ≡ due_output context (due_view (string_bytes timer.name) run))
     × (printed.err ≡ loaded_lines loaded) × (printed.status ≡ max (status_by printed.err) (status_of run))
 
 abbrev pub unloaded_lines : Loaded → List ℕ
@@ -339,6 +338,7 @@ pub record IsContextOf (options : Options) (known : Known) (style : Style) (cont
   pub local : clock_zone known.local ≡ Some (zone_of context.at.local)
   pub shown_now : context.shown.now ≡ known.now
   pub shown : clock_zone known.shown ≡ Some (zone_of context.shown.local)
+  pub boot : context.boot ≡ known.boot
   pub range : context.range.now ≡ known.range
   pub unguarded : context.unguarded.now ≡ known.unguarded.items
   pub is_user : context.is_user ≡ options.is_user

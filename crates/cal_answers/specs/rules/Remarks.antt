@@ -1,6 +1,6 @@
 -- The error lines that depend on the whole answer: what can't be read of the search path, a hint at a misspelled verb,
 -- folders without timers, and a missing zone file.
-use Rattle.std.specs.Prelude.{◌++◌, ◌==◌, ◌&&◌, ◌||◌, ℕ, Bool, true, false, not, List, [], Option, None, Some, codes, length, map, nat_eq, slice_get, string_bytes, if◌then◌else◌}
+use Rattle.std.specs.Prelude.{◌++◌, ◌==◌, ◌&&◌, ◌||◌, ℕ, Bool, true, false, not, List, [], Option, None, Some, codes, filter, length, map, nat_eq, slice_get, string_bytes, if◌then◌else◌}
 use Rattle.std.specs.List.{ends_with, flat_map, list_any}
 use Rattle.std.specs.Option.{option_and_then}
 use Rattle.std.specs.Str.{bytes_eq}
@@ -10,11 +10,13 @@ use Rattle.cal_load.specs.declared.loaded.Loaded.{Loaded}
 use Rattle.cal_load.specs.declared.target_fault.TargetFault.{TargetFault}
 use Rattle.cal_timers_command.specs.declared.verb.Verb.{Verb}
 use Rattle.cal_timers_command.specs.rules.Verbs.{similar_verb, verb_name}
+use Rattle.cal_unit_index.specs.declared.fault.UnitFault.{UnitFault}
 use Rattle.cal_answers.specs.declared.found.Known.{Known}
 use Rattle.cal_answers.specs.declared.found.LoadedByVerb.{LoadedByVerb}
 use Rattle.cal_answers.specs.declared.found.LoadedByVerb.TheVariants as loads
 use Rattle.cal_answers.specs.declared.local_clock.LocalClock.{LocalClock}
 use Rattle.cal_answers.specs.declared.local_clock.LocalClock.TheVariants as clocks
+use Rattle.cal_answers.specs.rules.DueFaults.{concerns}
 use Rattle.cal_answers.specs.rules.ErrorText.{is_not_found, unreadable_lines}
 use Rattle.cal_answers.specs.rules.Printed.{Printed, with_errors, with_notes}
 
@@ -128,7 +130,13 @@ abbrev pub with_remarks_for : Known → LoadedByVerb → Printed → Printed
 with_remarks_for known (loads.Due timer named) printed = printed
 with_remarks_for known _ printed = with_remarks known printed
 
+-- the unreadable parts of the search path that have an error line: for `due` those that concern its timer, and for other
+-- verbs all of them
+abbrev pub reported : Known → LoadedByVerb → List UnitFault
+reported known (loads.Due timer named) = filter (concerns known.index known.about timer) known.index.unreadable.items
+reported known _ = known.index.unreadable.items
+
 -- the answer, followed by the error lines about unreadable parts of the search path and, except for `due`, the remarks
 abbrev pub with_common_lines : Known → Printed → Printed
 with_common_lines known printed =
-    with_remarks_for known known.loaded (with_errors (unreadable_lines known.index.unreadable.items) printed)
+    with_remarks_for known known.loaded (with_errors (unreadable_lines (reported known known.loaded)) printed)

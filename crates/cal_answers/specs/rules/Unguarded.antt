@@ -1,5 +1,5 @@
--- The unguarded timers: timers with exceptions whose service doesn't run `calendar-timers due` as a condition, or may
--- not run it, or goes on if it fails, so that systemd ignores the exceptions (systemd.service(5), ExecCondition= and
+-- The unguarded timers: timers with exceptions that systemd ignores, or may ignore, since their service has no guard that
+-- works. A guard is a condition that runs `calendar-timers due` about the timer (systemd.service(5), ExecCondition= and
 -- SuccessExitStatus=).
 use Rattle.std.specs.Prelude.{ℕ, ◌-◌, ◌==◌, nat_eq, Bool, if◌then◌else◌, List, [], ◌∷◌, Option, None, Some, codes, length, map, string_bytes, take}
 use Rattle.std.specs.List.{ends_with, filter_map}
@@ -62,14 +62,12 @@ flaw_by Missing = Some flaws.Missing
 flaw_by Unknown = Some flaws.Unknown
 flaw_by FailureAccepted = Some flaws.FailureAccepted
 
--- the flaw in the guard of the service with this stem, by its files in these folders, if the timer with this name
--- starts it
+-- the flaw in the guard of the service with this stem, by its files in these folders, if the timer with this name starts it
 abbrev pub service_flaw : Machine → List (List ℕ) → Bool → List ℕ → Option (List ℕ) → Option GuardFlaw
 service_flaw machine folders is_user timer None = None
 service_flaw machine folders is_user timer (Some stem) = flaw_by (guard_on machine folders is_user timer stem)
 
--- the flaw in the guard of the unit that a timer starts, if it is a service; the unit is None if it depends on the
--- running system
+-- `service_flaw` of the unit that a timer starts; the unit is None if it depends on the running system
 abbrev pub unit_flaw : Machine → List (List ℕ) → Bool → List ℕ → Option (List ℕ) → Option GuardFlaw
 unit_flaw machine folders is_user timer None = None
 unit_flaw machine folders is_user timer (Some unit) = service_flaw machine folders is_user timer (service_stem unit)

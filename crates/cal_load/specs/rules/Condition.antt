@@ -68,7 +68,7 @@ is_option word = starts_with nat_eq word (codes "-")
 abbrev pub is_zone : List ℕ → Bool
 is_zone word = starts_with nat_eq word (codes "--in=")
 
--- whether the argument isn't an option, or is one that doesn't change the answer of `due` about a timer
+-- whether the argument isn't an option, or is `--user`, `--json` or `--in=ZONE`
 abbrev pub is_allowed : List ℕ → Bool
 is_allowed word =
     not (is_option word) || (bytes_eq word (codes "--user") || (bytes_eq word (codes "--json") || is_zone word))
@@ -77,8 +77,8 @@ is_allowed word =
 abbrev pub count_of : List ℕ → List (List ℕ) → ℕ
 count_of argument arguments = count_by (λ word. bytes_eq word argument) arguments
 
--- whether the options among the arguments are allowed, each at most once, and `--user` is among them exactly if the
--- units of a user are asked about
+-- whether the options among the arguments are allowed, each at most once, and `--user` is among them exactly if
+-- the timer is a unit of a user
 abbrev pub do_options_fit : Bool → List (List ℕ) → Bool
 do_options_fit is_user arguments =
     list_all is_allowed arguments

@@ -7,7 +7,7 @@ use Rattle.cal_zone.specs.declared.zone.Zone.{Zone}
 use Rattle.cal_zone.specs.rules.InstantText.{instant_text}
 use Rattle.cal_timers_report.specs.rules.JsonParts.{array_of, integer, json_document, list_of, natural, object_of, or_null}
 use Rattle.cal_timers_report.specs.rules.JsonTimes.{ago_span, left_span, local_time_text}
-use Rattle.cal_timers_report.specs.rules.ReportView.{UnitView, TimerView, LineView, ClockTimeView, ElapseView, SideView, ComparisonView, ProblemView, DueView}
+use Rattle.cal_timers_report.specs.rules.ReportView.{UnitView, TimerView, LineView, ClockTimeView, ElapseView, SideView, ComparisonView, ProblemView, DueView, elapse_of, is_due}
 
 -- ## list
 
@@ -107,11 +107,11 @@ instant_json zone secs = object_of (instant_members zone secs)
 abbrev pub due_members : Zone → DueView → List (List ℕ × Json)
 due_members zone view = (
     (codes "unit", or_null string view.unit)
-    ∷ (codes "due", boolean view.is_due)
-    ∷ (codes "elapse", or_null (instant_json zone) view.elapse)
+    ∷ (codes "due", boolean (is_due view.verdict))
+    ∷ (codes "elapse", or_null (instant_json zone) (elapse_of view.verdict))
     ∷ [])
 
--- an object that says whether the run of a service that starts now is due
+-- an object that says whether the run of a service is due
 abbrev pub due_document : Zone → DueView → List ℕ
 due_document zone view = json_document (object_of (due_members zone view))
 

@@ -12,7 +12,7 @@ use Rattle.cal_timers_report.specs.declared.report.Side.{Side}
 use Rattle.cal_timers_report.specs.declared.report.ProblemRow.{ProblemRow}
 use Rattle.cal_timers_report.specs.declared.due.DueReport.{DueReport}
 use Rattle.cal_timers_report.specs.declared.due.DueVerdict.{DueVerdict}
-use Rattle.cal_timers_report.specs.declared.due.DueVerdict.TheVariants.{ByHand, Due, Excepted, NotElapsed}
+use Rattle.cal_timers_report.specs.declared.due.DueVerdict.TheVariants as verdicts
 
 -- a row in the report of the verb `list`: a unit, its next elapse and its notes
 pub record UnitView : Type 0 where
@@ -130,28 +130,42 @@ problem_seen row = record {
   suggestion = option_map (λ text. text.now) row.suggestion;
 }
 
--- whether the run of a service that starts now is due, and the last elapse of the timer's expressions
+-- whether the run of a service is due
+pub data VerdictView : Type 0 where
+  -- it is due: no timer has started it
+  ByHand : VerdictView
+  -- it is due; the last elapse of the timer's expressions, if there is one
+  Due : (last : Option ℤ) → VerdictView
+  -- it is due because it may make up for an earlier elapse than the last one, which is an exception
+  CatchesUp : (last : ℤ) → VerdictView
+  -- it isn't due: the last elapse is an exception
+  Excepted : (last : ℤ) → VerdictView
+
 pub record DueView : Type 0 where
   pub unit : Option (List ℕ)
-  pub is_due : Bool
-  pub elapse : Option ℤ
+  pub verdict : VerdictView
 
--- a run that no timer has started is due
-abbrev pub is_due : DueVerdict → Bool
-is_due ByHand = true
-is_due (Due instant) = true
-is_due (Excepted instant) = false
-is_due NotElapsed = false
+abbrev pub is_due : VerdictView → Bool
+is_due VerdictView.ByHand = true
+is_due (VerdictView.Due last) = true
+is_due (VerdictView.CatchesUp last) = true
+is_due (VerdictView.Excepted last) = false
 
-abbrev pub elapse_of : DueVerdict → Option ℤ
-elapse_of ByHand = None
-elapse_of (Due instant) = Some instant.secs
-elapse_of (Excepted instant) = Some instant.secs
-elapse_of NotElapsed = None
+-- the last elapse of the timer's expressions, if there is one
+abbrev pub elapse_of : VerdictView → Option ℤ
+elapse_of VerdictView.ByHand = None
+elapse_of (VerdictView.Due last) = last
+elapse_of (VerdictView.CatchesUp last) = Some last
+elapse_of (VerdictView.Excepted last) = Some last
+
+abbrev pub verdict_seen : DueVerdict → VerdictView
+verdict_seen verdicts.ByHand = VerdictView.ByHand
+verdict_seen (verdicts.Due last) = VerdictView.Due (option_map (λ instant. instant.secs) last)
+verdict_seen (verdicts.CatchesUp last) = VerdictView.CatchesUp last.secs
+verdict_seen (verdicts.Excepted last) = VerdictView.Excepted last.secs
 
 abbrev pub due_seen : DueReport → DueView
 due_seen report = record {
   unit = option_map (λ name. name.now) report.unit;
-  is_due = is_due report.verdict;
-  elapse = elapse_of report.verdict;
+  verdict = verdict_seen report.verdict;
 }

@@ -1,4 +1,4 @@
-//! The document of `due`: whether the run of a service that starts now is due.
+//! The document of `due`: whether the run of a service is due.
 
 ghost use Rattle.std.specs.Prelude.{◌≡◌, ◌++◌, ◌∷◌, [], IfOk, OnOk, codes, option_map, string_bytes};
 ghost use Rattle.json.specs.Token.{key};
