@@ -1,5 +1,6 @@
 mod CronLemmas
 mod CrontabTimerLemmas
+mod DueRows
 mod ErrorLemmas
 pub mod FoundLemmas
 pub mod GuardLawLemmas
